@@ -1,0 +1,4 @@
+-- What bits, bytes and the size of a set are.
+pub mod Bit
+pub mod Byte
+pub mod Size

@@ -1,0 +1,1 @@
+// Bits of a slice of bytes, and counts of ones.

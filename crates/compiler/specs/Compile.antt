@@ -1,0 +1,81 @@
+-- What compiling promises, for every text and every image buffer.
+use Prim.Native.Nat.{ℕ, _≤_, _<_}
+use mathlib.Core.Path.{_≡_}
+use mathlib.Core.Logic.{_↔_}
+use mathlib.Core.List.{List, [], _∷_, _++_, List·Memᴰ}
+use lib.ListN.{length, getD, drop}
+use Rattle.table.specs.Table.{Table}
+use Rattle.table.specs.Image.{encode}
+use Rattle.table.specs.Refusal.{Reason, because, atZero, First, refusal}
+use Rattle.machine.specs.Run.{Accepts}
+use Rattle.rule.specs.Tree.{Program}
+use Rattle.rule.specs.Faults.{FirstFault, Reads}
+use Rattle.rule.specs.Meaning.{ProgramAccepts}
+use Rattle.compiler.specs.Construction.{construct}
+
+-- the bytes of image buffer that document 01 asks for, enough for the longest image
+abbrev pub imageRoom : ℕ
+imageRoom = 8246
+
+-- a whole program without faults, and what its table has of states or rows
+pub record TooMany (text : List ℕ) (size : Table → ℕ) (most place : ℕ) : Type 0 where
+  pub program : Program
+  pub reads : Reads text program
+  pub over : most < size (construct program)
+  pub atEnd : place ≡ length text
+
+-- the reasons to refuse, in order: 1, then 2, then whichever of 3 to 9 comes first in the text, then 10, then 11
+abbrev pub reasons : List ℕ → List ℕ → List {1} Reason
+reasons text image =
+    atZero 1 (4096 < length text)
+    ∷ atZero 2 (length image < imageRoom)
+    ∷ FirstFault text
+    ∷ because 10 (TooMany text (λ t. t .states) 128)
+    ∷ because 11 (TooMany text (λ t. length (t .rows)) 1024)
+    ∷ []
+
+-- what is compiled: a text that the grammar derives and whose limits hold
+pub record Compilable (text : List ℕ) (p : Program) : Type 0 where
+  pub short : length text ≤ 4096
+  pub reads : Reads text p
+  pub states : construct p .states ≤ 128
+  pub rows : length (construct p .rows) ≤ 1024
+
+-- table and program agree: for every word of its letters and every limit, one has an accepting run within it exactly when the other has
+abbrev pub Agree : Program → Type 0
+Agree p =
+    (word : List ℕ) (limit : ℕ)
+    → ((i : ℕ) → i < length word → List·Memᴰ (getD word i 0) (construct p .alphabet))
+    → Accepts (construct p) word limit ↔ ProgramAccepts p word limit
+
+pub data Answer : Type 0 where
+  -- the image's length, the states and the rows
+  compiled : ℕ → ℕ → ℕ → Answer
+  -- a number and its place
+  refused : ℕ → ℕ → Answer
+
+-- the answer as one number, for C
+unfoldable pub answerNumber : Answer → ℕ
+answerNumber (compiled bytes states rows) = bytes
+answerNumber (refused number place) = refusal number place
+
+pub record Compiled (text before after : List ℕ) (bytes states rows : ℕ) : Type 0 where
+  pub program : Program
+  pub compilable : Compilable text program
+  pub room : imageRoom ≤ length before
+  pub bytesAre : bytes ≡ length (encode (construct program))
+  pub statesAre : states ≡ construct program .states
+  pub rowsAre : rows ≡ length (construct program .rows)
+  pub image : after ≡ encode (construct program) ++ drop bytes before
+  pub agree : Agree program
+
+pub record Refused (text before after : List ℕ) (number place : ℕ) : Type 0 where
+  pub first : First (reasons text before) number place
+  pub unchanged : after ≡ before
+
+abbrev pub AnswerRight : List ℕ → List ℕ → List ℕ → Answer → Type 0
+AnswerRight text before after (compiled bytes states rows) = Compiled text before after bytes states rows
+AnswerRight text before after (refused number place) = Refused text before after number place
+
+pub record Compiles (text before after : List ℕ) (answer : Answer) : Type 0 where
+  pub right : AnswerRight text before after answer

@@ -1,0 +1,23 @@
+-- The compile program's line: `ok`, states, rows, image bytes; or `no`, number, place.
+use Prim.Native.Nat.{ℕ, zero, suc, _+_, _/_, _%_}
+use mathlib.Core.Bool.{true, false}
+use mathlib.Core.List.{List, [], _∷_, _++_}
+use lib.Dec.{ltb}
+use Rattle.bits.specs.Byte.{spelling}
+use Rattle.compiler.specs.Compile.{Answer, compiled, refused}
+
+-- the last digits of a number, at most so many and no leading zero, before what follows
+unfoldable pub digits : ℕ → ℕ → List ℕ → List ℕ
+digits zero n rest = rest
+digits (suc most) n rest =
+    elim (ltb n 10) [ true ↦ (n + 48) ∷ rest | false ↦ digits most (n / 10) ((n % 10 + 48) ∷ rest) ]
+
+-- a number of up to twenty digits, written in ten figures
+abbrev pub decimal : ℕ → List ℕ
+decimal n = digits 20 n []
+
+unfoldable pub line : Answer → List ℕ
+line (compiled bytes states rows) =
+    spelling "ok " ++ (decimal states ++ (spelling " " ++ (decimal rows ++ (spelling " " ++ (decimal bytes ++ spelling "\n")))))
+line (refused number place) =
+    spelling "no " ++ (decimal number ++ (spelling " " ++ (decimal place ++ spelling "\n")))

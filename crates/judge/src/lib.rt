@@ -1,0 +1,1 @@
+// The search over the marks, the verdict and the count.

@@ -1,0 +1,4 @@
+-- What a head sees and how it moves, what one row does, and what the runs of a table reach.
+pub mod Cell
+pub mod Step
+pub mod Run

@@ -1,0 +1,47 @@
+-- What one row does to a situation, with no limit in it. Both tests look at the situation before the step.
+use Prim.Native.Nat.{ℕ, _+_, _-_, min}
+use mathlib.Core.Path.{_≡_}
+use mathlib.Core.Bool.{Bool, cond, _&&_, _||_}
+use mathlib.Core.Option.{Option, none, some}
+use mathlib.Core.List.{List, List·Memᴰ}
+use lib.ListN.{length, getD}
+use lib.Dec.{leb, ltb, eqb}
+use Rattle.table.specs.Table.{Row, Table}
+use Rattle.machine.specs.Cell.{Symbol, leftMark, letter, rightMark, symbolOn, moved}
+
+pub record Situation : Type 0 where
+  pub state : ℕ
+  pub cell : ℕ
+  pub counter : ℕ
+
+-- whether a row's symbol, over this alphabet, is what stands on the cell
+unfoldable pub symbolFits : List ℕ → ℕ → Symbol → Bool
+symbolFits alphabet code leftMark = eqb code 16 || eqb code 18
+symbolFits alphabet code (letter b) = (ltb code (length alphabet) && eqb (getD alphabet code 0) b) || eqb code 18
+symbolFits alphabet code rightMark = eqb code 17 || eqb code 18
+
+-- whether a row's test (0 zero, 1 above zero, 2 either) fits the counter
+unfoldable pub counterFits : ℕ → ℕ → Bool
+counterFits test counter = eqb test (min counter 1) || eqb test 2
+
+-- the counter changed by code - 31; below zero it is zero where it stops there, and else the row can't be taken
+unfoldable pub changed : Bool → ℕ → ℕ → Option ℕ
+changed stops code counter =
+    cond (leb 31 (counter + code)) (some (counter + code - 31)) (cond stops (some 0) none)
+
+unfoldable pub rowFits : Table → List ℕ → Row → Situation → Bool
+rowFits t word r s =
+    eqb (r .from) (s .state)
+    && (symbolFits (t .alphabet) (r .symbol) (symbolOn word (s .cell)) && counterFits (r .test) (s .counter))
+
+-- the situation t is one row's step from s
+pub record Takes (t : Table) (word : List ℕ) (r : Row) (before after : Situation) : Type 0 where
+  pub fits : rowFits t word r before ≡ Bool.true
+  pub state : after .state ≡ r .to
+  pub cell : after .cell ≡ moved word (r .move) (before .cell)
+  pub counter : changed (t .stops) (r .change) (before .counter) ≡ some (after .counter)
+
+pub record Step (t : Table) (word : List ℕ) (before after : Situation) : Type 0 where
+  pub row : Row
+  pub listed : List·Memᴰ row (t .rows)
+  pub takes : Takes t word row before after

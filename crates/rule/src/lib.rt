@@ -1,0 +1,1 @@
+// Reading a rule: its grammar, its limits, and what it means.

@@ -1,0 +1,1 @@
+// The samples of the language's description, held to the definitions.

@@ -1,0 +1,1 @@
+// A table, its image, and the checker of images.

@@ -1,0 +1,3 @@
+-- What the tokens of a text are, and where each stands.
+pub mod Token
+pub mod Tokens
