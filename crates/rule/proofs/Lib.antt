@@ -1,0 +1,2 @@
+-- Laws of the definitions of a rule.
+pub mod Parse
