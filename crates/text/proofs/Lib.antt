@@ -1,0 +1,2 @@
+-- The tokeniser as a function of the bytes, and the laws of a text's tokens.
+pub mod Scan
