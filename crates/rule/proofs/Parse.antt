@@ -1,20 +1,37 @@
 -- A reading of token lists that computes. What it finds it gives with its derivation, so nothing has to be proved of it;
 -- the samples are computed by it. Fuel bounds how deep it goes.
 use Prim.Native.Nat.{ℕ, zero, suc, _+_, _*_}
-use mathlib.Core.Path.{_≡_, refl, sym, _∙_, ap, ap₂, subst}
-use mathlib.Core.Bool.{Bool, true, false, _&&_}
+use mathlib.Core.Path.{_≡_, refl, sym, _∙_, ap, subst}
+use mathlib.Core.Bool.{Bool, true, false}
 use mathlib.Core.Option.{Option, none, some}
 use mathlib.Core.List.{List, [], _∷_}
 use lib.ListN.{length}
-use lib.Dec.{T, eqb, eqb→eq}
+use lib.Dec.{T}
 use Rattle.text.specs.Token.{Token, word, number, letter, sign, w, s}
 use Rattle.text.specs.Tokens.{Placed, _at_}
+use Rattle.text.proofs.Same.{sameToken, same-token}
 use Rattle.rule.specs.Tree as Tree
 use Rattle.rule.specs.Tree.{Number, Letter, Sought, Atom, Condition, Plain, Statement, Statements, Arms, Program, done, _then_}
 use Rattle.rule.specs.Grammar as Grammar
 use Rattle.rule.specs.Grammar.{
-  Ts, IsSought, IsAtom, Binding, loosest, middle, tightest, IsCondition, IsPlain, IsStatement, IsArms, IsBlock, IsStatements, IsLetters, IsAlphabet, IsDecrement, IsSettings,
-  IsProgram
+  Ts,
+  IsSought,
+  IsAtom,
+  Binding,
+  loosest,
+  middle,
+  tightest,
+  IsCondition,
+  IsPlain,
+  IsStatement,
+  IsArms,
+  IsBlock,
+  IsStatements,
+  IsLetters,
+  IsAlphabet,
+  IsDecrement,
+  IsSettings,
+  IsProgram,
 }
 
 infixl 10 _>>=_
@@ -29,63 +46,6 @@ none orElse b = b
 (some a) orElse b = some a
 
 -- one token
-
-abbrev sameBytes : List ℕ → List ℕ → Bool
-sameBytes [] [] = true
-sameBytes [] (y ∷ ys) = false
-sameBytes (x ∷ xs) [] = false
-sameBytes (x ∷ xs) (y ∷ ys) = eqb x y && sameBytes xs ys
-
-and-left : (a b : Bool) → T (a && b) → T a
-and-left true b t = tt
-and-left false b t = absurd t
-
-and-right : (a b : Bool) → T (a && b) → T b
-and-right true b t = t
-and-right false b t = absurd t
-
-same-bytes : (xs ys : List ℕ) → T (sameBytes xs ys) → xs ≡ ys
-same-bytes [] [] t = refl
-same-bytes [] (y ∷ ys) t = absurd t
-same-bytes (x ∷ xs) [] t = absurd t
-same-bytes (x ∷ xs) (y ∷ ys) t =
-    ap₂ (λ (a : ℕ) (l : List ℕ). a ∷ l) (eqb→eq x y (and-left (eqb x y) (sameBytes xs ys) t)) (same-bytes xs ys (and-right (eqb x y) (sameBytes xs ys) t))
-
-abbrev sameToken : Token → Token → Bool
-sameToken (word a) (word b) = sameBytes a b
-sameToken (word a) (number b) = false
-sameToken (word a) (letter b) = false
-sameToken (word a) (sign b) = false
-sameToken (number a) (word b) = false
-sameToken (number a) (number b) = sameBytes a b
-sameToken (number a) (letter b) = false
-sameToken (number a) (sign b) = false
-sameToken (letter a) (word b) = false
-sameToken (letter a) (number b) = false
-sameToken (letter a) (letter b) = eqb a b
-sameToken (letter a) (sign b) = false
-sameToken (sign a) (word b) = false
-sameToken (sign a) (number b) = false
-sameToken (sign a) (letter b) = false
-sameToken (sign a) (sign b) = sameBytes a b
-
-pub same-token : (t u : Token) → T (sameToken t u) → t ≡ u
-same-token (word a) (word b) t = ap word (same-bytes a b t)
-same-token (word a) (number b) t = absurd t
-same-token (word a) (letter b) t = absurd t
-same-token (word a) (sign b) t = absurd t
-same-token (number a) (word b) t = absurd t
-same-token (number a) (number b) t = ap number (same-bytes a b t)
-same-token (number a) (letter b) t = absurd t
-same-token (number a) (sign b) t = absurd t
-same-token (letter a) (word b) t = absurd t
-same-token (letter a) (number b) t = absurd t
-same-token (letter a) (letter b) t = ap letter (eqb→eq a b t)
-same-token (letter a) (sign b) t = absurd t
-same-token (sign a) (word b) t = absurd t
-same-token (sign a) (number b) t = absurd t
-same-token (sign a) (letter b) t = absurd t
-same-token (sign a) (sign b) t = ap sign (same-bytes a b t)
 
 -- the tokens begin with this one
 pub record Taken (t : Token) (ts : Ts) : Type 0 where
@@ -188,11 +148,11 @@ condition (suc fuel) tightest ts =
       c ← condition fuel loosest (o .rest)
       e ← take (s ")") (c .rest)
       found
-        (IsCondition tightest)
-        (o .is)
-        (Tree.parens (o .place) (c .tree))
-        (e .rest)
-        (Grammar.parens (onward (IsCondition loosest) c (e .is))))
+          (IsCondition tightest)
+          (o .is)
+          (Tree.parens (o .place) (c .tree))
+          (e .rest)
+          (Grammar.parens (onward (IsCondition loosest) c (e .is))))
     orElse (do
       o ← take (s "!") ts
       c ← condition fuel tightest (o .rest)
@@ -203,24 +163,24 @@ condition (suc fuel) middle ts = do
     o ← take (s "&&") (c .rest)
     d ← condition fuel middle (o .rest)
     found
-      (IsCondition middle)
-      refl
-      (Tree.both (c .tree) (d .tree))
-      (d .rest)
-      (Grammar.both (onward (IsCondition tightest) c (o .is)) (d .derived)))
-    orElse found (IsCondition middle) refl (c .tree) (c .rest) (Grammar.tighter (c .derived))
+        (IsCondition middle)
+        refl
+        (Tree.both (c .tree) (d .tree))
+        (d .rest)
+        (Grammar.both (onward (IsCondition tightest) c (o .is)) (d .derived)))
+      orElse found (IsCondition middle) refl (c .tree) (c .rest) (Grammar.tighter (c .derived))
 condition (suc fuel) loosest ts = do
   c ← condition fuel middle ts
   (do
     o ← take (s "||") (c .rest)
     d ← condition fuel loosest (o .rest)
     found
-      (IsCondition loosest)
-      refl
-      (Tree.either (c .tree) (d .tree))
-      (d .rest)
-      (Grammar.either (onward (IsCondition middle) c (o .is)) (d .derived)))
-    orElse found (IsCondition loosest) refl (c .tree) (c .rest) (Grammar.tight (c .derived))
+        (IsCondition loosest)
+        refl
+        (Tree.either (c .tree) (d .tree))
+        (d .rest)
+        (Grammar.either (onward (IsCondition middle) c (o .is)) (d .derived)))
+      orElse found (IsCondition loosest) refl (c .tree) (c .rest) (Grammar.tight (c .derived))
 
 -- statements
 
@@ -241,11 +201,11 @@ plain ts =
       e ← take (s ")") (n .rest)
       f ← take (s ";") (e .rest)
       found
-        IsPlain
-        (k .is and o .is and m .is and n .is and e .is and f .is)
-        (Tree.moveBack (n .read))
-        (f .rest)
-        Grammar.moveBack)
+          IsPlain
+          (k .is and o .is and m .is and n .is and e .is and f .is)
+          (Tree.moveBack (n .read))
+          (f .rest)
+          Grammar.moveBack)
     orElse (do
       k ← take (w "goto") ts
       o ← take (s "(") (k .rest)
@@ -310,15 +270,15 @@ inParens fuel ts = do
   c ← condition fuel loosest (o .rest)
   e ← take (s ")") (c .rest)
   some
-    (record {
-      opens = o .place;
-      inside = o .rest;
-      closes = e .place;
-      tree = c .tree;
-      rest = e .rest;
-      is = o .is;
-      derived = onward (IsCondition loosest) c (e .is)
-    })
+      (record {
+        opens = o .place;
+        inside = o .rest;
+        closes = e .place;
+        tree = c .tree;
+        rest = e .rest;
+        is = o .is;
+        derived = onward (IsCondition loosest) c (e .is);
+      })
 
 abbrev mutual
   statement : ℕ → (ts : Ts) → Option (Found IsStatement ts)
@@ -343,15 +303,15 @@ abbrev mutual
           l ← take (w "else") (b .rest)
           d ← block fuel (l .rest)
           found
-            IsStatement
-            (k .is and c .is)
-            (Tree.ifElse (c .tree) (b .brace) (b .tree) (d .brace) (d .tree))
-            (d .rest)
-            (Grammar.ifElse
+              IsStatement
+              (k .is and c .is)
+              (Tree.ifElse (c .tree) (b .brace) (b .tree) (d .brace) (d .tree))
+              (d .rest)
+              (Grammar.ifElse
               (c .derived)
               (subst (λ (x : Ts). IsBlock (c .rest) (b .brace) (b .tree) x) (l .is) (b .derived))
               (d .derived)))
-          orElse found
+            orElse found
             IsStatement
             (k .is and c .is)
             (Tree.if (c .tree) (b .brace) (b .tree))
@@ -362,11 +322,11 @@ abbrev mutual
         c ← inParens fuel (k .rest)
         b ← block fuel (c .rest)
         found
-          IsStatement
-          (k .is and c .is)
-          (Tree.while (c .tree) (b .brace) (b .tree))
-          (b .rest)
-          (Grammar.while (c .derived) (b .derived)))
+            IsStatement
+            (k .is and c .is)
+            (Tree.while (c .tree) (b .brace) (b .tree))
+            (b .rest)
+            (Grammar.while (c .derived) (b .derived)))
       orElse (do
         k ← take (w "while") ts
         c ← take (w "choose") (k .rest)
@@ -377,11 +337,11 @@ abbrev mutual
         b ← block fuel (k .rest)
         a ← arms fuel (b .rest)
         found
-          IsStatement
-          (k .is)
-          (Tree.branch (b .brace) (b .tree) (a .tree))
-          (a .rest)
-          (Grammar.branch (b .derived) (a .derived)))
+            IsStatement
+            (k .is)
+            (Tree.branch (b .brace) (b .tree) (a .tree))
+            (a .rest)
+            (Grammar.branch (b .derived) (a .derived)))
 
   arms : ℕ → (ts : Ts) → Option (Found IsArms ts)
   arms zero ts = none
@@ -391,12 +351,12 @@ abbrev mutual
     (do
       a ← arms fuel (b .rest)
       found
-        IsArms
-        (k .is)
-        (Tree.moreArms (k .place) (b .brace) (b .tree) (a .tree))
-        (a .rest)
-        (Grammar.moreArms (b .derived) (a .derived)))
-      orElse found
+          IsArms
+          (k .is)
+          (Tree.moreArms (k .place) (b .brace) (b .tree) (a .tree))
+          (a .rest)
+          (Grammar.moreArms (b .derived) (a .derived)))
+        orElse found
         IsArms
         (k .is)
         (Tree.lastArm (k .place) (b .brace) (b .tree))
@@ -430,7 +390,7 @@ letters (suc fuel) ts = do
     k ← take (s ",") (l .rest)
     m ← letters fuel (k .rest)
     found IsLetters (l .is and k .is) (l .read ∷ m .tree) (m .rest) (Grammar.more (m .derived)))
-    orElse found IsLetters (l .is) (l .read ∷ []) (l .rest) Grammar.one
+      orElse found IsLetters (l .is) (l .read ∷ []) (l .rest) Grammar.one
 
 abbrev alphabet : ℕ → (ts : Ts) → Option (Found IsAlphabet ts)
 alphabet fuel ts = do
@@ -441,11 +401,11 @@ alphabet fuel ts = do
   e ← take (s "]") (l .rest)
   f ← take (s ";") (e .rest)
   found
-    IsAlphabet
-    (k .is and o .is and b .is)
-    (l .tree)
-    (f .rest)
-    (Grammar.alphabet (onward IsLetters l (e .is and f .is)))
+      IsAlphabet
+      (k .is and o .is and b .is)
+      (l .tree)
+      (f .rest)
+      (Grammar.alphabet (onward IsLetters l (e .is and f .is)))
 
 abbrev decrement : (ts : Ts) → Option (Found IsDecrement ts)
 decrement ts =
@@ -474,22 +434,22 @@ settings fuel ts =
       a ← alphabet fuel ts
       d ← decrement (a .rest)
       some
-        (record {
-          letters = a .tree;
-          stops = d .tree;
-          rest = d .rest;
-          derived = Grammar.alphabetFirst (a .derived) (d .derived)
-        }))
+          (record {
+            letters = a .tree;
+            stops = d .tree;
+            rest = d .rest;
+            derived = Grammar.alphabetFirst (a .derived) (d .derived);
+          }))
     orElse (do
       d ← decrement ts
       a ← alphabet fuel (d .rest)
       some
-        (record {
-          letters = a .tree;
-          stops = d .tree;
-          rest = a .rest;
-          derived = Grammar.decrementFirst (d .derived) (a .derived)
-        }))
+          (record {
+            letters = a .tree;
+            stops = d .tree;
+            rest = a .rest;
+            derived = Grammar.decrementFirst (d .derived) (a .derived);
+          }))
 
 -- all tokens are one program
 pub record Parsed (ts : Ts) : Type 0 where
@@ -497,10 +457,10 @@ pub record Parsed (ts : Ts) : Type 0 where
   pub derived : IsProgram ts program
 
 abbrev whole : (ts : Ts) (l : List Letter) (d : Bool) {us : Ts} {p q r t : ℕ}
-  → IsSettings ts l d ((w "twoc" at p) ∷ (s "(" at q) ∷ (w "string" at r) ∷ (s ")" at t) ∷ us)
-  → (o : ℕ) (b : Statements) (vs : Ts)
-  → IsBlock us o b vs
-  → Option (Parsed ts)
+    → IsSettings ts l d ((w "twoc" at p) ∷ (s "(" at q) ∷ (w "string" at r) ∷ (s ")" at t) ∷ us)
+    → (o : ℕ) (b : Statements) (vs : Ts)
+    → IsBlock us o b vs
+    → Option (Parsed ts)
 whole ts l d e o b [] f =
     some (record { program = record { alphabet = l; stops = d; brace = o; body = b }; derived = Grammar.program e f })
 whole ts l d e o b (v ∷ vs) f = none
@@ -514,11 +474,11 @@ parse ts = do
   e ← take (s ")") (t .rest)
   b ← block (4 * length ts) (e .rest)
   whole
-    ts
-    (h .letters)
-    (h .stops)
-    (subst (λ (x : Ts). IsSettings ts (h .letters) (h .stops) x) (k .is and o .is and t .is and e .is) (h .derived))
-    (b .brace)
-    (b .tree)
-    (b .rest)
-    (b .derived)
+      ts
+      (h .letters)
+      (h .stops)
+      (subst (λ (x : Ts). IsSettings ts (h .letters) (h .stops) x) (k .is and o .is and t .is and e .is) (h .derived))
+      (b .brace)
+      (b .tree)
+      (b .rest)
+      (b .derived)

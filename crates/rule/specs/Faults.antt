@@ -1,18 +1,12 @@
 -- The first fault of a text, 3 to 9, by what programs there are, limits aside: no reader is mentioned in it.
-use Prim.Native.Nat.{ℕ, _<_}
+use Prim.Native.Nat.{ℕ}
 use mathlib.Core.Path.{_≡_}
 use mathlib.Core.List.{List, [], _∷_, _++_, List·Memᴰ}
 use Rattle.text.specs.Token.{Token}
-use Rattle.text.specs.Tokens.{Placed, _at_, Ending, ends, broken, TokensOf}
+use Rattle.text.specs.Tokens.{Placed, _at_, Ending, ends, broken, TokensOf, Rising}
 use Rattle.rule.specs.Tree.{Program}
 use Rattle.rule.specs.Grammar.{IsProgram}
 use Rattle.rule.specs.Limits.{Fault, fault, faults}
-
--- the places of the tokens rise, as those of a text do
-pub data Rising : List Placed → Type 0 where
-  none : Rising []
-  one : {t : Placed} → Rising (t ∷ [])
-  more : {t u : Token} {p q : ℕ} {ts : List Placed} → p < q → Rising ((u at q) ∷ ts) → Rising ((t at p) ∷ (u at q) ∷ ts)
 
 -- some program, limits aside, begins with these tokens
 pub record GoesOn (ts : List Placed) : Type 0 where

@@ -15,7 +15,8 @@ use Rattle.machine.specs.Cell.{moved, symbolOn}
 use Rattle.machine.specs.Step.{Situation, Takes, Step, rowFits, changed, symbolFits, counterFits}
 use Rattle.machine.specs.Run.{start, Reach, begins, goes, Accepts, Passes}
 use Rattle.judge.specs.Verdict.{Verdict, Yes, No, LimitMet, IsVerdict}
-use Rattle.samples.proofs.Decide.{_>>=_, passed, equal, every, every-at, and-left, and-right}
+use Rattle.bits.proofs.Tests.{every, every-at, and-left, and-right, and-of, or-left, or-right, or-cases}
+use Rattle.samples.proofs.Decide.{_>>=_, passed}
 
 abbrev sameSituation : Situation → Situation → Bool
 sameSituation a b = eqb (a .state) (b .state) && (eqb (a .cell) (b .cell) && eqb (a .counter) (b .counter))
@@ -32,38 +33,22 @@ abbrev isListed : Situation → List Situation → Bool
 isListed s [] = false
 isListed s (x ∷ xs) = sameSituation s x || isListed s xs
 
-pub or-cases : (a b : Bool) → T (a || b) → T a ⊎ T b
-or-cases true b t = inl tt
-or-cases false b t = inr t
-
 pub listed : (s : Situation) (xs : List Situation) → T (isListed s xs) → List·Memᴰ s xs
 listed s [] t = absurd t
 listed s (x ∷ xs) t =
     ⊎-elim
-      (λ h. List·Memᴰ·head (same-situation s x h))
-      (λ h. List·Memᴰ·tail (listed s xs h))
-      (or-cases (sameSituation s x) (isListed s xs) t)
+    (λ h. List·Memᴰ·head (same-situation s x h))
+    (λ h. List·Memᴰ·tail (listed s xs h))
+    (or-cases (sameSituation s x) (isListed s xs) t)
 
 -- and the other way round
-and-of : (a b : Bool) → T a → T b → T (a && b)
-and-of true b t u = u
-and-of false b t u = t
-
 itself : (s : Situation) → T (sameSituation s s)
 itself s =
     and-of
-      (eqb (s .state) (s .state))
-      (eqb (s .cell) (s .cell) && eqb (s .counter) (s .counter))
-      (eqb-refl (s .state))
-      (and-of (eqb (s .cell) (s .cell)) (eqb (s .counter) (s .counter)) (eqb-refl (s .cell)) (eqb-refl (s .counter)))
-
-or-left : (a b : Bool) → T a → T (a || b)
-or-left true b t = tt
-or-left false b t = absurd t
-
-or-right : (a b : Bool) → T b → T (a || b)
-or-right true b t = tt
-or-right false b t = t
+    (eqb (s .state) (s .state))
+    (eqb (s .cell) (s .cell) && eqb (s .counter) (s .counter))
+    (eqb-refl (s .state))
+    (and-of (eqb (s .cell) (s .cell)) (eqb (s .counter) (s .counter)) (eqb-refl (s .cell)) (eqb-refl (s .counter)))
 
 is-listed : (s : Situation) (xs : List Situation) → List·Memᴰ s xs → T (isListed s xs)
 is-listed s xs (List·Memᴰ·head {x = x} {xs = ys} e) =
@@ -78,9 +63,10 @@ different (x ∷ xs) = not (isListed x xs) && different xs
 pub no-twice : (xs : List Situation) → T (different xs) → List·Nodup xs
 no-twice [] t = nodup-nil
 no-twice (x ∷ xs) t =
-    nodup-cons .1
-      ( λ m. ∥∥₁-elim m ⊥-prop (λ d. T-not (isListed x xs) (and-left (not (isListed x xs)) (different xs) t) (is-listed x xs d))
-      , no-twice xs (and-right (not (isListed x xs)) (different xs) t) )
+    nodup-cons .1 (
+      λ m. ∥∥₁-elim m ⊥-prop (λ d. T-not (isListed x xs) (and-left (not (isListed x xs)) (different xs) t) (is-listed x xs d)),
+      no-twice xs (and-right (not (isListed x xs)) (different xs) t),
+    )
 
 module _ (t : Table) (word : List ℕ) (limit : ℕ) where
   abbrev Reached : Type 0
@@ -91,15 +77,15 @@ module _ (t : Table) (word : List ℕ) (limit : ℕ) where
   after r s c = record { state = r .to; cell = moved word (r .move) (s .cell); counter = c }
 
   pub follow : (r : Row) → List·Memᴰ r (t .rows) → (x : Reached) (c : ℕ)
-    → rowFits t word r (x .0) ≡ true
-    → changed (t .stops) (r .change) (x .0 .counter) ≡ some c
-    → c ≤ limit
-    → Reach t word limit (after r (x .0) c)
+      → rowFits t word r (x .0) ≡ true
+      → changed (t .stops) (r .change) (x .0 .counter) ≡ some c
+      → c ≤ limit
+      → Reach t word limit (after r (x .0) c)
   follow r m x c fits change low =
       goes (x .1) (record { row = r; listed = m; takes = record { fits = fits; state = refl; cell = refl; counter = change } }) low
 
   abbrev step : (r : Row) → List·Memᴰ r (t .rows) → (x : Reached) (b : Bool) → rowFits t word r (x .0) ≡ b
-    → (o : Option ℕ) → changed (t .stops) (r .change) (x .0 .counter) ≡ o → List Reached
+      → (o : Option ℕ) → changed (t .stops) (r .change) (x .0 .counter) ≡ o → List Reached
   step r m x false e o f = []
   step r m x true e none f = []
   step r m x true e (some c) f =
@@ -139,9 +125,9 @@ module _ (t : Table) (word : List ℕ) (limit : ℕ) where
   all-reached [] s m = absurd (List·Memᴰ·not-nil m)
   all-reached (x ∷ xs) s m =
       ⊎-elim
-        (λ e. subst (λ (y : Situation). Reach t word limit y) (sym e) (x .1))
-        (λ n. all-reached xs s n)
-        (List·Memᴰ·cases-cons m)
+      (λ e. subst (λ (y : Situation). Reach t word limit y) (sym e) (x .1))
+      (λ n. all-reached xs s n)
+      (List·Memᴰ·cases-cons m)
 
   -- a row from a situation leads to none that is not listed
   abbrev stays : List Situation → Row → Situation → Bool → Option ℕ → Bool
@@ -160,13 +146,13 @@ module _ (t : Table) (word : List ℕ) (limit : ℕ) where
   within false b h k = absurd k
 
   stays-at : (xs : List Situation) (r : Row) (s : Situation) (b : Bool) (o : Option ℕ) (c : ℕ)
-    → T (stays xs r s b o) → b ≡ true → o ≡ some c → c ≤ limit → T (isListed (after r s c) xs)
+      → T (stays xs r s b o) → b ≡ true → o ≡ some c → c ≤ limit → T (isListed (after r s c) xs)
   stays-at xs r s b o c h e f low =
       within
-        (leb c limit)
-        (isListed (after r s c) xs)
-        (subst₂ (λ (x : Bool) (y : Option ℕ). T (stays xs r s x y)) e f h)
-        (le→leb c limit low)
+      (leb c limit)
+      (isListed (after r s c) xs)
+      (subst₂ (λ (x : Bool) (y : Option ℕ). T (stays xs r s x y)) e f h)
+      (le→leb c limit low)
 
   -- a list that holds the start and is closed holds all that is reached
   pub holds-all : (xs : List Situation) → T (isListed start xs) → T (closed xs) → {s : Situation} → Reach t word limit s → List·Memᴰ s xs
@@ -175,17 +161,17 @@ module _ (t : Table) (word : List ℕ) (limit : ℕ) where
       let k : Takes t word (st .row) s u = st .takes in
       let r : Row = st .row in
       let inside : T (isListed (after r s (u .counter)) xs) =
-          stays-at
-            xs
-            r
-            s
-            (rowFits t word r s)
-            (changed (t .stops) (r .change) (s .counter))
-            (u .counter)
-            (every-at (rowStays xs s) (st .listed) (every-at (λ x. every (rowStays xs x) (t .rows)) (holds-all xs b h reached) h))
-            (k .fits)
-            (k .counter)
-            low in
+      stays-at
+      xs
+      r
+      s
+      (rowFits t word r s)
+      (changed (t .stops) (r .change) (s .counter))
+      (u .counter)
+      (every-at (rowStays xs s) (st .listed) (every-at (λ x. every (rowStays xs x) (t .rows)) (holds-all xs b h reached) h))
+      (k .fits)
+      (k .counter)
+      low in
       let same : after r s (u .counter) ≡ u = λ i. record { state = sym (k .state) i; cell = sym (k .cell) i; counter = u .counter } in
       subst (λ (x : Situation). List·Memᴰ x xs) same (listed (after r s (u .counter)) xs inside)
 
@@ -200,21 +186,21 @@ module _ (t : Table) (word : List ℕ) (limit : ℕ) where
   explore =
       let xs : List Situation = situations all in
       passed
-        (different xs && (isListed start xs && closed xs))
-        (λ h.
-          let rest : T (isListed start xs && closed xs) = and-right (different xs) (isListed start xs && closed xs) h in
-          record {
-            listed = xs;
-            once = no-twice xs (and-left (different xs) (isListed start xs && closed xs) h);
-            each =
-              λ s reached.
-                holds-all
-                  xs
-                  (and-left (isListed start xs) (closed xs) rest)
-                  (and-right (isListed start xs) (closed xs) rest)
-                  reached;
-            only = all-reached all
-          })
+      (different xs && (isListed start xs && closed xs))
+      (λ h.
+      let rest : T (isListed start xs && closed xs) = and-right (different xs) (isListed start xs && closed xs) h in
+      record {
+        listed = xs;
+        once = no-twice xs (and-left (different xs) (isListed start xs && closed xs) h);
+        each =
+            λ s reached.
+            holds-all
+            xs
+            (and-left (isListed start xs) (closed xs) rest)
+            (and-right (isListed start xs) (closed xs) rest)
+            reached;
+        only = all-reached all;
+      })
 
   pub size-of : (x : Explored) → Size (Reach t word limit) (length (x .listed))
   size-of x = record { listed = x .listed; once = x .once; each = x .each; only = x .only; many = refl }
@@ -231,17 +217,17 @@ module _ (t : Table) (word : List ℕ) (limit : ℕ) where
   findAccepting [] k = none
   findAccepting (x ∷ xs) k =
       elim (passed (isAccepting x) (one-accepts x (k x (List·Memᴰ·head refl)))) [
-        none ↦ findAccepting xs (λ s m. k s (List·Memᴰ·tail m)) |
-        some a ↦ some a
+        | none ↦ findAccepting xs (λ s m. k s (List·Memᴰ·tail m))
+        | some a ↦ some a
       ]
 
   pub none-accepts : (x : Explored) → T (every (λ s. not (isAccepting s)) (x .listed)) → ¬ Accepts t word limit
   none-accepts x h a =
       let s : Situation = a .situation in
       T-not
-        (isAccepting s)
-        (every-at (λ u. not (isAccepting u)) (x .each s (a .reached)) h)
-        (subst (λ (n : ℕ). T (eqb n 1)) (sym (a .accepting)) (eqb-refl 1))
+      (isAccepting s)
+      (every-at (λ u. not (isAccepting u)) (x .each s (a .reached)) h)
+      (subst (λ (n : ℕ). T (eqb n 1)) (sym (a .accepting)) (eqb-refl 1))
 
   -- a row from a situation passes the limit
   abbrev over : Bool → Option ℕ → Bool
@@ -260,24 +246,24 @@ module _ (t : Table) (word : List ℕ) (limit : ℕ) where
       let s : Situation = p .before in
       let r : Row = p .step .row in
       T-not
-        (rowOver s r)
-        (every-at
-          (λ q. not (rowOver s q))
-          (p .step .listed)
-          (every-at (λ u. every (λ q. not (rowOver u q)) (t .rows)) (x .each s (p .reached)) h))
-        (over-at
-          (rowFits t word r s)
-          (changed (t .stops) (r .change) (s .counter))
-          (p .after .counter)
-          (p .step .takes .fits)
-          (p .step .takes .counter)
-          (p .above))
+      (rowOver s r)
+      (every-at
+      (λ q. not (rowOver s q))
+      (p .step .listed)
+      (every-at (λ u. every (λ q. not (rowOver u q)) (t .rows)) (x .each s (p .reached)) h))
+      (over-at
+      (rowFits t word r s)
+      (changed (t .stops) (r .change) (s .counter))
+      (p .after .counter)
+      (p .step .takes .fits)
+      (p .step .takes .counter)
+      (p .above))
 
   pub one-passes : (r : Row) → List·Memᴰ r (t .rows) → (s : Situation) → Reach t word limit s
-    → (b : Bool) → rowFits t word r s ≡ b
-    → (o : Option ℕ) → changed (t .stops) (r .change) (s .counter) ≡ o
-    → T (over b o)
-    → Passes t word limit
+      → (b : Bool) → rowFits t word r s ≡ b
+      → (o : Option ℕ) → changed (t .stops) (r .change) (s .counter) ≡ o
+      → T (over b o)
+      → Passes t word limit
   one-passes r m s reached false e o f h = absurd h
   one-passes r m s reached true e none f h = absurd h
   one-passes r m s reached true e (some c) f h =
@@ -286,34 +272,34 @@ module _ (t : Table) (word : List ℕ) (limit : ℕ) where
         after = after r s c;
         reached = reached;
         step = record { row = r; listed = m; takes = record { fits = e; state = refl; cell = refl; counter = f } };
-        above = ltb→lt limit c h
+        above = ltb→lt limit c h;
       }
 
   abbrev findRow : (s : Situation) → Reach t word limit s → (rs : List Row)
-    → ((r : Row) → List·Memᴰ r rs → List·Memᴰ r (t .rows)) → Option (Passes t word limit)
+      → ((r : Row) → List·Memᴰ r rs → List·Memᴰ r (t .rows)) → Option (Passes t word limit)
   findRow s reached [] k = none
   findRow s reached (r ∷ rs) k =
       elim (passed
-        (rowOver s r)
-        (one-passes
-          r
-          (k r (List·Memᴰ·head refl))
-          s
-          reached
-          (rowFits t word r s)
-          refl
-          (changed (t .stops) (r .change) (s .counter))
-          refl)) [
-        none ↦ findRow s reached rs (λ q m. k q (List·Memᴰ·tail m)) |
-        some p ↦ some p
+      (rowOver s r)
+      (one-passes
+      r
+      (k r (List·Memᴰ·head refl))
+      s
+      reached
+      (rowFits t word r s)
+      refl
+      (changed (t .stops) (r .change) (s .counter))
+      refl)) [
+        | none ↦ findRow s reached rs (λ q m. k q (List·Memᴰ·tail m))
+        | some p ↦ some p
       ]
 
   abbrev findPassing : (xs : List Situation) → ((s : Situation) → List·Memᴰ s xs → Reach t word limit s) → Option (Passes t word limit)
   findPassing [] k = none
   findPassing (x ∷ xs) k =
       elim (findRow x (k x (List·Memᴰ·head refl)) (t .rows) (λ r m. m)) [
-        none ↦ findPassing xs (λ s m. k s (List·Memᴰ·tail m)) |
-        some p ↦ some p
+        | none ↦ findPassing xs (λ s m. k s (List·Memᴰ·tail m))
+        | some p ↦ some p
       ]
 
   abbrev pub decideVerdict : Explored → (v : Verdict) → Option (IsVerdict t word limit v)

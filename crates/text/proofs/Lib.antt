@@ -1,2 +1,3 @@
 -- The tokeniser as a function of the bytes, and the laws of a text's tokens.
 pub mod Scan
+pub mod Same

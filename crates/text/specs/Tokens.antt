@@ -1,5 +1,5 @@
 -- The tokens of a text, longest first, each with the place of its first byte, up to the text's end or a broken token.
-use Prim.Native.Nat.{ℕ, _+_, _≤_}
+use Prim.Native.Nat.{ℕ, _+_, _≤_, _<_}
 use mathlib.Core.Path.{_≡_}
 use mathlib.Core.Bool.{Bool, not, _||_}
 use mathlib.Core.List.{List, [], _∷_, _++_}
@@ -69,3 +69,9 @@ pub data Tokens : ℕ → List ℕ → List Placed → Ending → Type 0 where
 -- a text's places are counted from 0
 abbrev pub TokensOf : List ℕ → List Placed → Ending → Type 0
 TokensOf text = Tokens 0 text
+
+-- the places of the tokens rise, as those of a text's tokens do
+pub data Rising : List Placed → Type 0 where
+  empty : Rising []
+  single : {t : Placed} → Rising (t ∷ [])
+  rises : {t u : Token} {p q : ℕ} {ts : List Placed} → p < q → Rising ((u at q) ∷ ts) → Rising ((t at p) ∷ (u at q) ∷ ts)

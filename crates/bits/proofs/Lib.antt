@@ -1,0 +1,2 @@
+-- Laws of bits, bytes and sizes.
+pub mod Tests

@@ -1,0 +1,50 @@
+-- The starred samples of document 01 hold, all of them: one theorem, by computing. A line more needs no proof more.
+use Rattle.bits.specs.Bit.{bit, withBit}
+use Rattle.table.specs.Image.{encode, field, twoBytes, rowBytes, rowsBytes, flag}
+use Rattle.machine.specs.Cell.{symbolOn, moved}
+use Rattle.machine.specs.Step.{symbolFits, counterFits, changed, rowFits}
+use Rattle.text.proofs.Scan.{scan}
+use Rattle.rule.specs.Tree.{letterBytes}
+use Rattle.rule.specs.Limits.{
+  faults,
+  letterFaults,
+  isIn,
+  valueFrom,
+  inForm,
+  numberFaults,
+  soughtFaults,
+  atomFaults,
+  conditionFaults,
+  plainFaults,
+  statementsFaults,
+}
+use Rattle.compiler.specs.Construction.{
+  construct,
+  programPart,
+  statementsPart,
+  withBits,
+  andThen,
+  armPart,
+  loopPart,
+  ifPart,
+  test,
+  walk,
+  oneAfterOther,
+  oneOrOther,
+  atomRows,
+  symbolRows,
+  without,
+  countUp,
+  symbolCode,
+  indexIn,
+  changeCode,
+  moveCode,
+}
+use Rattle.compiler.specs.Line.{line, digits}
+use Rattle.samples.specs.Sample.{EachHolds, onlyRow}
+use Rattle.samples.specs.Starred.{starred}
+use Rattle.samples.proofs.Prove.{each}
+
+pub starred-hold : EachHolds starred
+unfolding bit withBit encode field twoBytes rowBytes rowsBytes flag symbolOn moved symbolFits counterFits changed rowFits scan letterBytes faults letterFaults isIn valueFrom inForm numberFaults soughtFaults atomFaults conditionFaults plainFaults statementsFaults construct programPart statementsPart withBits andThen armPart loopPart ifPart test walk oneAfterOther oneOrOther atomRows symbolRows without countUp symbolCode indexIn changeCode moveCode line digits onlyRow
+starred-hold = each starred tt
