@@ -1,0 +1,3 @@
+-- Laws of bits and of the size of a set.
+pub mod Size
+pub mod Bits
