@@ -26,8 +26,8 @@ pub same-number
 same-number zero la lb same = omega arith
 same-number (suc k) {a} {b} la lb same =
     let low : a % 2 ≡ b % 2 = omega (arith, same 0 (zero-lt-suc k)) in
-    let high : a / 2 ≡ b / 2 =
-    same-number k (omega (arith, pow-suc 2 k)) (omega (arith, pow-suc 2 k)) λ j l. simp half-bits (same (suc j) (suc-le-suc l)) in
+    let rest : (j : ℕ) → j < k → a / 2 / 2 ^ j % 2 ≡ b / 2 / 2 ^ j % 2 = λ j l. simp half-bits (same (suc j) (suc-le-suc l)) in
+    let high : a / 2 ≡ b / 2 = same-number k (omega (arith, pow-suc 2 k)) (omega (arith, pow-suc 2 k)) rest in
     omega arith
 
 -- the bits of one byte
@@ -38,5 +38,4 @@ bit-of-byte m i j l = rw (digits-div, digits-mod)
 -- bytes that are as many and have the same bits are equal
 pub same-bits : {m n : List ℕ} → Bytes m → Bytes n → length m ≡ length n → ((i : ℕ) → bit m i ≡ bit n i) → m ≡ n
 same-bits {m} {n} bm bn long same =
-    ext-getD 0 m n long λ i l.
-    same-number 8 (bm i) (bn i) λ j s. sym (bit-of-byte m i j s) ∙ same (i * 8 + j) ∙ bit-of-byte n i j s
+    ext-getD 0 m n long (λ i l. same-number 8 (bm i) (bn i) (λ j s. sym (bit-of-byte m i j s) ∙ same (i * 8 + j) ∙ bit-of-byte n i j s))

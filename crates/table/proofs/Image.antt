@@ -8,6 +8,7 @@ use lib.ListN.{length, getD, take, drop, length-append}
 use lib.Seq.{take-at, drop-at}
 use Rattle.table.specs.Table.{Row, Table}
 use Rattle.table.specs.Image.{twoBytes, field, rowBytes, rowsBytes, flag, edition, encode}
+use Rattle.table.specs.WellFormed.{IsImage}
 
 -- where two joined lists are equal and their first parts as long, the parts are equal
 pub same-parts : {A : Type 0} (a b c d : List A) → length a ≡ length b → a ++ c ≡ b ++ d → (a ≡ b) × (c ≡ d)
@@ -16,11 +17,12 @@ same-parts a b c d long e = (
   sym (drop-at a c (length b) long) ∙ ap (drop (length b)) e ∙ drop-at b d (length b) refl,
 )
 
--- a number is told by its two bytes
+-- a number is told by its high and its low byte
 number-once : {m n : ℕ} → m / 256 ≡ n / 256 → m % 256 ≡ n % 256 → m ≡ n
 number-once high low = omega arith
 
-twoBytes-once : (m n : ℕ) → twoBytes m ≡ twoBytes n → m ≡ n
+-- two bytes tell their number
+pub twoBytes-once : (m n : ℕ) → twoBytes m ≡ twoBytes n → m ≡ n
 unfolding twoBytes
 twoBytes-once m n e = number-once (ap (λ l. getD l 0 0) e) (ap (λ l. getD l 1 0) e)
 
@@ -55,7 +57,7 @@ row-once p q r s e =
     (same, ap (drop 8) e)
 
 -- the bytes of rows are eight to a row
-length-rows : (rs : List Row) → length (rowsBytes rs) ≡ 8 * length rs
+pub length-rows : (rs : List Row) → length (rowsBytes rs) ≡ 8 * length rs
 unfolding rowsBytes rowBytes twoBytes
 length-rows [] = refl
 length-rows (r ∷ rs) = omega (arith, length-rows rs)
@@ -87,6 +89,10 @@ encode-once t u e =
       accepting = accepting .0 i;
       rows = rows-once (t .rows) (u .rows) (rows .0) i;
     }
+
+-- bytes are the image of at most one table
+pub table-once : {image : List ℕ} {t u : Table} → IsImage t image → IsImage u image → t ≡ u
+table-once {t = t} {u = u} a b = encode-once t u (sym (a .encoded) ∙ b .encoded)
 
 -- a field is three bytes longer than its value
 pub length-field : (tag : ℕ) (value : List ℕ) → length (field tag value) ≡ length value + 3
