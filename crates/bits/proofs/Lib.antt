@@ -1,2 +1,4 @@
--- Laws of bits, bytes and sizes.
+-- Laws of bits, of tests that compute, and of sizes.
+pub mod Bits
+pub mod Size
 pub mod Tests

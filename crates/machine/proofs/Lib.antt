@@ -1,0 +1,2 @@
+-- Laws of what runs reach.
+pub mod Run

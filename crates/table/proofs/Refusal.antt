@@ -1,0 +1,45 @@
+-- A refusal is one: of reasons that give at most one number and place each, the first that holds gives one number and place.
+use Prim.Native.Nat.{ℕ}
+use mathlib.Core.Path.{_≡_, sym, _∙_}
+use mathlib.Core.Logic.{inl, inr}
+use mathlib.Core.List.{List, [], _∷_}
+use Rattle.table.specs.Refusal.{Reason, because, atZero, First}
+
+-- a reason gives at most one number and place
+pub record Single (r : Reason) : Type 0 where
+  pub number : {n m p q : ℕ} → r n p → r m q → n ≡ m
+  pub place : {n m p q : ℕ} → r n p → r m q → p ≡ q
+
+-- whatever number and place a reason gives has Q
+abbrev pub Gives : (ℕ → ℕ → Type 0) → Reason → Type 0
+Gives Q r = (n p : ℕ) → r n p → Q n p
+
+-- each reason of the list has P
+abbrev pub Each : (Reason → Type 0) → List Reason → Type 0
+Each P [] = Unit {0}
+Each P (r ∷ rs) = P r × Each P rs
+
+-- a reason with one number is single if at most one place has what it asks
+pub single-because : {n : ℕ} {P : ℕ → Type 0} → ((p q : ℕ) → P p → P q → p ≡ q) → Single (because n P)
+single-because one = record {
+  number = λ a b. a .0 ∙ sym (b .0);
+  place = λ a b. one _ _ (a .1) (b .1);
+}
+
+-- a reason with place 0 is single
+pub single-at-zero : {n : ℕ} {P : Type 0} → Single (atZero n P)
+single-at-zero = single-because (λ p q a b. a .0 ∙ sym (b .0))
+
+-- the first of single reasons gives one number and place
+pub first-once : {n m p q : ℕ} (rs : List Reason) → Each Single rs → First rs n p → First rs m q → (n ≡ m) × (p ≡ q)
+unfolding First
+first-once (r ∷ rs) one (inl a) (inl b) = (one .0 .number a b, one .0 .place a b)
+first-once (r ∷ rs) one (inl a) (inr b) = absurd (b .0 _ _ a)
+first-once (r ∷ rs) one (inr a) (inl b) = absurd (a .0 _ _ b)
+first-once (r ∷ rs) one (inr a) (inr b) = first-once rs (one .1) (a .1) (b .1)
+
+-- what each of the reasons gives has Q, so what the first that holds gives has it
+pub first-has : (Q : ℕ → ℕ → Type 0) {n p : ℕ} (rs : List Reason) → Each (Gives Q) rs → First rs n p → Q n p
+unfolding First
+first-has Q (r ∷ rs) each (inl a) = each .0 _ _ a
+first-has Q (r ∷ rs) each (inr a) = first-has Q rs (each .1) (a .1)
