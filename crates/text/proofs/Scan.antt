@@ -134,7 +134,7 @@ example = refl
 bal : List ℕ
 bal =
     spelling
-        "alphabet=['u','r'];decr_on_zero=false;twoc(string){move(1);while(read!=rend){if(read=='u'){c++;}else{c--;}move(1);}if(c==0){accept;}} // +"
+    "alphabet=['u','r'];decr_on_zero=false;twoc(string){move(1);while(read!=rend){if(read=='u'){c++;}else{c--;}move(1);}if(c==0){accept;}} // +"
 
 example2 : scan bal .ending ≡ ends 138
 unfolding scan bal
