@@ -1,3 +1,6 @@
 -- The tokeniser as a function of the bytes, and the laws of a text's tokens.
 pub mod Scan
 pub mod Same
+pub mod Runs
+pub mod Front
+pub mod Tokens
