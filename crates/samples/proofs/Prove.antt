@@ -20,6 +20,7 @@ use Rattle.judge.specs.Verdict.{Verdict, IsVerdict}
 use Rattle.text.specs.Token.{Token}
 use Rattle.text.specs.Tokens.{Placed, _at_, Ending, ends, broken, TokensOf, Rising}
 use Rattle.text.proofs.Scan.{scan}
+use Rattle.text.proofs.Tokens.{scan-right}
 use Rattle.text.proofs.Same.{sameToken, same-token}
 use Rattle.rule.specs.Tree.{Program}
 use Rattle.rule.specs.Grammar.{IsProgram}
@@ -35,9 +36,6 @@ use Rattle.samples.specs.Sample as Sample
 use Rattle.samples.specs.Sample.{Finding, prints, has, image, row, judged, Sample, compiles, refuses, onlyRow, FindingHolds, AllHold, Holds, EachHolds}
 use Rattle.samples.proofs.Decide.{_>>=_, found, it, passed, equal, atMost, equalLists, empty}
 use Rattle.samples.proofs.Explore.{Explored, explore, size-of, decideVerdict}
-
-scan-right : (text : List ℕ) → TokensOf text (scan text .tokens) (scan text .ending)
-scan-right text = ?
 
 tokens-rise : {text : List ℕ} {ts : List Placed} {e : Ending} → TokensOf text ts e → Rising ts
 tokens-rise t = ?
