@@ -3,3 +3,4 @@ pub mod Scan
 pub mod Runs
 pub mod Front
 pub mod Tokens
+pub mod Rising
