@@ -1,6 +1,7 @@
 -- The tokeniser as a function of the bytes, and the laws of a text's tokens.
 pub mod Scan
 pub mod Runs
+pub mod Reach
 pub mod Front
 pub mod Tokens
 pub mod Rising
