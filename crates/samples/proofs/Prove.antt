@@ -21,6 +21,7 @@ use Rattle.text.specs.Token.{Token}
 use Rattle.text.specs.Tokens.{Placed, _at_, Ending, ends, broken, TokensOf, Rising}
 use Rattle.text.proofs.Scan.{scan}
 use Rattle.text.proofs.Tokens.{scan-right}
+use Rattle.text.proofs.Rising.{rising}
 use Rattle.text.proofs.Same.{sameToken, same-token}
 use Rattle.rule.specs.Tree.{Program}
 use Rattle.rule.specs.Grammar.{IsProgram}
@@ -36,9 +37,6 @@ use Rattle.samples.specs.Sample as Sample
 use Rattle.samples.specs.Sample.{Finding, prints, has, image, row, judged, Sample, compiles, refuses, onlyRow, FindingHolds, AllHold, Holds, EachHolds}
 use Rattle.samples.proofs.Decide.{_>>=_, found, it, passed, equal, atMost, equalLists, empty}
 use Rattle.samples.proofs.Explore.{Explored, explore, size-of, decideVerdict}
-
-tokens-rise : {text : List ℕ} {ts : List Placed} {e : Ending} → TokensOf text ts e → Rising ts
-tokens-rise t = ?
 
 -- the text's program, if it is one without faults
 
@@ -194,7 +192,7 @@ pub limit-broken : (text other : List ℕ) (n p : ℕ)
     → FirstFault text n p
 unfolding goes-on
 limit-broken text other n p sp rest q others derived begins first within =
-    let rising : Rising (scan other .tokens) = tokens-rise (scan-right other) in
+    let rising : Rising (scan other .tokens) = rising (scan-right other) in
     let here : List Placed = (sp .token at p) ∷ [] in
     Faults.limit
     (sp .before)
