@@ -1,0 +1,2 @@
+-- Laws of the construction.
+pub mod States
