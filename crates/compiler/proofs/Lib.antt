@@ -1,2 +1,3 @@
 -- Laws of the construction.
-pub mod States
+pub mod Symbols
+pub mod Counts

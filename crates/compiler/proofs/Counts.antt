@@ -1,7 +1,7 @@
 -- How many states the construction takes, over every tree and every alphabet: what each part raises `next` by.
 use Prim.Native.Nat.{ℕ, suc, _+_}
 use native.Mathlib.Omega.{arith}
-use mathlib.Core.Path.{_≡_, refl, _∙_}
+use mathlib.Core.Path.{_≡_, refl}
 use mathlib.Core.Bool.{Bool, true, false, not}
 use mathlib.Core.List.{List}
 use Rattle.rule.specs.Tree.{
@@ -30,8 +30,6 @@ use Rattle.rule.specs.Tree.{
   letterBytes,
 }
 use Rattle.compiler.specs.Construction.{
-  Added,
-  Part,
   Walk,
   oneAfterOther,
   oneOrOther,
@@ -66,32 +64,32 @@ walkStates (either c d) true = walkStates c true + walkStates d true
 walkStates (either c d) false = 1 + (walkStates c false + walkStates d false)
 
 -- whatever it goes between, a walk takes this many states
-abbrev pub Takes : Walk → ℕ → Type 0
-Takes w n = (p q next : ℕ) → w p q next .next ≡ next + n
+abbrev pub TakesStates : Walk → ℕ → Type 0
+TakesStates w n = (p q next : ℕ) → w p q next .next ≡ next + n
 
-after-takes : (a b : Walk) (m n : ℕ) → Takes a m → Takes b n → Takes (oneAfterOther a b) (1 + (m + n))
+after-states : (a b : Walk) (m n : ℕ) → TakesStates a m → TakesStates b n → TakesStates (oneAfterOther a b) (1 + (m + n))
 unfolding oneAfterOther
-after-takes a b m n f g p q next =
+after-states a b m n f g p q next =
     omega (arith, f p next (suc next), g next q (a p next (suc next) .next))
 
-or-takes : (a b : Walk) (m n : ℕ) → Takes a m → Takes b n → Takes (oneOrOther a b) (m + n)
+or-states : (a b : Walk) (m n : ℕ) → TakesStates a m → TakesStates b n → TakesStates (oneOrOther a b) (m + n)
 unfolding oneOrOther
-or-takes a b m n f g p q next = omega (arith, f p q next, g p q (a p q next .next))
+or-states a b m n f g p q next = omega (arith, f p q next, g p q (a p q next .next))
 
 -- a condition's walk takes its states
-pub walk-takes : (alphabet : List ℕ) (c : Condition) (sign : Bool) → Takes (walk alphabet c sign) (walkStates c sign)
+pub walk-states : (alphabet : List ℕ) (c : Condition) (sign : Bool) → TakesStates (walk alphabet c sign) (walkStates c sign)
 unfolding walk walkStates
-walk-takes alphabet (atom a) sign = λ p q next. omega arith
-walk-takes alphabet (parens o c) sign = walk-takes alphabet c sign
-walk-takes alphabet (negation o c) sign = walk-takes alphabet c (not sign)
-walk-takes alphabet (both c d) true =
-    after-takes _ _ _ _ (walk-takes alphabet c true) (walk-takes alphabet d true)
-walk-takes alphabet (both c d) false =
-    or-takes _ _ _ _ (walk-takes alphabet c false) (walk-takes alphabet d false)
-walk-takes alphabet (either c d) true =
-    or-takes _ _ _ _ (walk-takes alphabet c true) (walk-takes alphabet d true)
-walk-takes alphabet (either c d) false =
-    after-takes _ _ _ _ (walk-takes alphabet c false) (walk-takes alphabet d false)
+walk-states alphabet (atom a) sign = λ p q next. omega arith
+walk-states alphabet (parens o c) sign = walk-states alphabet c sign
+walk-states alphabet (negation o c) sign = walk-states alphabet c (not sign)
+walk-states alphabet (both c d) true =
+    after-states _ _ _ _ (walk-states alphabet c true) (walk-states alphabet d true)
+walk-states alphabet (both c d) false =
+    or-states _ _ _ _ (walk-states alphabet c false) (walk-states alphabet d false)
+walk-states alphabet (either c d) true =
+    or-states _ _ _ _ (walk-states alphabet c true) (walk-states alphabet d true)
+walk-states alphabet (either c d) false =
+    after-states _ _ _ _ (walk-states alphabet c false) (walk-states alphabet d false)
 
 -- under the two signs together, one for each operator
 pub both-signs : (c : Condition) → walkStates c true + walkStates c false ≡ conditionStates c
@@ -107,8 +105,8 @@ pub test-next :
     (alphabet : List ℕ) (c : Condition) (p x y next : ℕ) → test alphabet c p x y next .next ≡ next + conditionStates c
 unfolding test
 test-next alphabet c p x y next =
-    let held = walk-takes alphabet c true p x next in
-    omega (arith, walk-takes alphabet c false p y (walk alphabet c true p x next .next), both-signs c)
+    let held = walk-states alphabet c true p x next in
+    omega (arith, walk-states alphabet c false p y (walk alphabet c true p x next .next), both-signs c)
 
 -- every part takes its tree's states, wherever it starts and whatever the alphabet is
 mutual

@@ -1,0 +1,2 @@
+-- Laws of rules.
+pub mod Within
