@@ -181,7 +181,7 @@ unfoldable mutual
   ArmsWithin alphabet (moreArms p o b a) = StatementsWithin alphabet b × ArmsWithin alphabet a
 
 pub record ProgramWithin (p : Program) : Type 0 where
-  pub few : length (p .alphabet) ≤ 16
+  pub few : length (letterBytes (p .alphabet)) ≤ 16
   pub different : List·Nodup (letterBytes (p .alphabet))
   pub body : StatementsWithin (letterBytes (p .alphabet)) (p .body)
 
@@ -346,7 +346,12 @@ program-within p none =
     let alphabet = letterBytes (p .alphabet) in
     let letters = letterFaults [] (p .alphabet) in
     record {
-      few = omega (arith, letters-few (p .alphabet) [] (nil-left letters _ none) (omega arith));
+      few =
+          omega (
+            arith,
+            letters-few (p .alphabet) [] (nil-left letters _ none) (omega arith),
+            length-letterBytes (p .alphabet),
+          );
       different = letters-different (p .alphabet) [] (nil-left letters _ none) nodup-nil;
       body = statements-within (p .body) alphabet 1 (block-rest 0 (p .brace) _ (nil-right letters _ none));
     }
