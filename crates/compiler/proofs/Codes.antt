@@ -1,18 +1,15 @@
 -- Every row of the construction has codes within their ranges, and leads to a state that is taken.
 use Prim.Native.Nat.{ℕ, suc, _+_, _≤_, _<_}
 use native.Mathlib.Omega.{arith}
-use mathlib.Core.Path.{_≡_, refl}
-use mathlib.Core.Logic.{_⊎_, inl, inr, ⊎-elim}
+use mathlib.Core.Path.{refl}
+use mathlib.Core.Logic.{inl, inr}
 use mathlib.Core.Bool.{Bool, true, false, not}
-use mathlib.Core.List.{List, [], _∷_, _++_, List·Memᴰ·head, List·Memᴰ·tail}
+use mathlib.Core.List.{List, [], _∷_, List·Memᴰ·head, List·Memᴰ·tail}
 use lib.ListN.{length}
 use Rattle.table.specs.Table.{Row}
 use Rattle.table.specs.WellFormed.{SymbolCode}
 use Rattle.rule.specs.Tree.{
   Sought,
-  letter,
-  lend,
-  rend,
   Atom,
   readIs,
   readIsNot,
@@ -68,7 +65,6 @@ use Rattle.compiler.specs.Construction.{
   symbolCode,
   countUp,
   allSymbols,
-  without,
   symbolRows,
   isRows,
   isNotRows,
@@ -86,8 +82,8 @@ use Rattle.compiler.specs.Construction.{
   armsPart,
 }
 use Rattle.compiler.proofs.Symbols.{countUp-mem, without-mem, code-mem}
-use Rattle.compiler.proofs.Counts.{test-next, statement-next, statements-next, arms-next}
-use Rattle.compiler.proofs.Own.{Every, every-nil, every-cons, every-append, Own, start, taken, leads-walk, statement-lone}
+use Rattle.compiler.proofs.Counts.{test-next, statements-next, arms-next}
+use Rattle.compiler.proofs.Own.{Every, every-nil, every-cons, every-append, own-below, leads-walk, statement-lone}
 
 -- with k letters
 pub record CodesIn (k : ℕ) (r : Row) : Type 0 where
@@ -100,10 +96,6 @@ pub record CodesIn (k : ℕ) (r : Row) : Type 0 where
 pub record Fine (k limit : ℕ) (r : Row) : Type 0 where
   pub codes : CodesIn k r
   pub to : r .to < limit
-
-own-below : {p next after s limit : ℕ} → Own p next after s → p < limit → after ≤ limit → s < limit
-own-below (start e) h k = omega arith
-own-below (taken a b) h k = omega arith
 
 -- a row that only tests
 test-codes : {k symbol test p q : ℕ} → SymbolCode k symbol → test ≤ 2 → CodesIn k (testRow symbol test p q)

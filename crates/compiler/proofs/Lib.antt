@@ -3,3 +3,5 @@ pub mod Symbols
 pub mod Counts
 pub mod Own
 pub mod Codes
+pub mod SetBit
+pub mod WellFormed

@@ -15,7 +15,6 @@ use mathlib.Core.List.{
   List·Memᴰ·not-nil,
   List·Memᴰ·cases-cons,
   List·Memᴰ·append-cases,
-  List·Memᴰ·eq-of-singleton,
 }
 use lib.Seq.{append-snoc}
 use Rattle.table.specs.Table.{Row}
@@ -87,6 +86,11 @@ module _ {A : Type 0} {P : A → Type 0} where
 pub data Own (p next after s : ℕ) : Type 0 where
   start : s ≡ p → Own p next after s
   taken : next ≤ s → s < after → Own p next after s
+
+-- none of them is above those taken
+pub own-below : {p next after s limit : ℕ} → Own p next after s → p < limit → after ≤ limit → s < limit
+own-below (start e) h k = omega arith
+own-below (taken a b) h k = omega arith
 
 -- the own states of a part of a part
 pub record Inside (p next after p′ next′ after′ : ℕ) : Type 0 where
