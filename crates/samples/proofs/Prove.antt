@@ -179,7 +179,7 @@ goes-on ts rest all q r d e =
       derived = subst (λ (x : List Placed). IsProgram x q) e d;
     }
 
--- the refusal by a limit, from the split text and the other program
+-- the refusal by a limit, from the split text and a program that goes on from the tokens up to the place
 pub limit-broken : (text other : List ℕ) (n p : ℕ)
     (sp : Split p (scan text .tokens))
     (rest : List Placed)
@@ -230,16 +230,17 @@ first-refusal text n p short h =
       ),
     )
 
-abbrev refuse : (text other : List ℕ) (n p : ℕ) → Option (First (reasons text (replicate imageRoom 0)) n p)
-refuse text other n p = do
+-- where the text itself is a program, limits aside, it is the program that goes on
+abbrev refuse : (text : List ℕ) (n p : ℕ) → Option (First (reasons text (replicate imageRoom 0)) n p)
+refuse text n p = do
   short ← atMost (length text) 4096
   sp ← split p (scan text .tokens)
-  x ← parse (scan other .tokens)
-  r ← after (sp .before ++ ((sp .token at p) ∷ [])) (scan other .tokens)
+  x ← parse (scan text .tokens)
+  r ← after (sp .before ++ ((sp .token at p) ∷ [])) (scan text .tokens)
   f ← firstFault (faults (x .program)) n p
   h ← passed
       (apart (faults (x .program)) (sp .before))
-      (limit-broken text other n p sp (r .0) (x .program) (f .0) (x .derived) (r .1) (f .1))
+      (limit-broken text text n p sp (r .0) (x .program) (f .0) (x .derived) (r .1) (f .1))
   some (first-refusal text n p short h)
 
 -- a line, and a table of lines
@@ -248,8 +249,8 @@ prove (compiles text findings) = do
   c ← compile (spelling text)
   hs ← findAll (construct (c .0)) findings
   some (c .0, c .1, hs)
-prove (refuses text other n p printed) = do
-  r ← refuse (spelling text) (spelling other) n p
+prove (refuses text n p printed) = do
+  r ← refuse (spelling text) n p
   h ← equalLists (line (Compile.refused n p)) (spelling printed)
   some (r, h)
 

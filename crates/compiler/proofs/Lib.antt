@@ -1,0 +1,7 @@
+-- Laws of the construction.
+pub mod Symbols
+pub mod Counts
+pub mod Own
+pub mod Codes
+pub mod SetBit
+pub mod WellFormed
