@@ -5,3 +5,5 @@ pub mod Own
 pub mod Codes
 pub mod SetBit
 pub mod WellFormed
+pub mod Effects
+pub mod Atoms

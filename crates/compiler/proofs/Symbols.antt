@@ -27,6 +27,7 @@ use mathlib.Core.List.{
 use lib.ListN.{length, length-append, getD}
 use lib.Dec.{eqb}
 use borrow.Author.Tests.{eqb-true, eqb-false, eq-eqb, ne-eqb}
+use Rattle.table.specs.Table.{Row}
 use Rattle.rule.specs.Tree.{Sought, letter, lend, rend}
 use Rattle.rule.proofs.Within.{SoughtWithin}
 use Rattle.compiler.specs.Construction.{
@@ -37,6 +38,9 @@ use Rattle.compiler.specs.Construction.{
   countUp,
   allSymbols,
   without,
+  eitherCounter,
+  testRow,
+  symbolRows,
 }
 
 -- the code i stands for the letter b
@@ -58,6 +62,24 @@ index-stands (x ∷ xs) b m = go (eqb b x) refl (List·Memᴰ·cases-cons m) (in
     go true q m rest = record { below = suc-le-suc zero-le; finds = sym (eqb-true b x q) }
     go false q (inl e) rest = absurd (eqb-false b x q e)
     go false q (inr m) rest = record { below = suc-le-suc (rest m .below); finds = rest m .finds }
+
+-- what stands at an index is a member
+pub getD-mem : (l : List ℕ) (i : ℕ) → i < length l → List·Memᴰ (getD l i 0) l
+getD-mem [] i h = absurd (omega arith)
+getD-mem (x ∷ xs) zero h = List·Memᴰ·head refl
+getD-mem (x ∷ xs) (suc i) h = List·Memᴰ·tail (getD-mem xs i (omega arith))
+
+-- in a list of different letters, a letter stands at one index
+pub index-once :
+    (l : List ℕ) (i j : ℕ) → List·Nodup l → i < length l → j < length l → getD l i 0 ≡ getD l j 0 → i ≡ j
+index-once [] i j once h k e = absurd (omega arith)
+index-once (x ∷ xs) zero zero once h k e = refl
+index-once (x ∷ xs) zero (suc j) once h k e =
+    absurd (nodup-cons .0 once .0 ∣ Memᴰ·cast e (getD-mem xs j (omega arith)) ∣₁)
+index-once (x ∷ xs) (suc i) zero once h k e =
+    absurd (nodup-cons .0 once .0 ∣ Memᴰ·cast (sym e) (getD-mem xs i (omega arith)) ∣₁)
+index-once (x ∷ xs) (suc i) (suc j) once h k e =
+    ap suc (index-once xs i j (nodup-cons .0 once .1) (omega arith) (omega arith) e)
 
 -- the numbers from n on
 pub length-countUp : (n many : ℕ) → length (countUp n many) ≡ many
@@ -194,3 +216,24 @@ length-others alphabet x few within =
       length-without (symbolCode alphabet x) (allSymbols alphabet) (nodup-symbols alphabet few) (code-mem alphabet x within),
       length-symbols alphabet,
     )
+
+-- there is one row for each of the symbols
+pub mem-symbolRows :
+    (xs : List ℕ) (p q x : ℕ) → List·Memᴰ x xs → List·Memᴰ (testRow x eitherCounter p q) (symbolRows xs p q)
+unfolding symbolRows
+mem-symbolRows xs p q x (List·Memᴰ·head e) = List·Memᴰ·head (ap (λ (y : ℕ). testRow y eitherCounter p q) e)
+mem-symbolRows xs p q x (List·Memᴰ·tail {xs = ys} m) = List·Memᴰ·tail (mem-symbolRows ys p q x m)
+
+pub symbolRows-mem :
+    (xs : List ℕ) (p q : ℕ) (r : Row)
+    → List·Memᴰ r (symbolRows xs p q)
+    → (x : ℕ) × List·Memᴰ x xs × (r ≡ testRow x eitherCounter p q)
+unfolding symbolRows
+symbolRows-mem [] p q r m = absurd (List·Memᴰ·not-nil m)
+symbolRows-mem (x ∷ xs) p q r m = go (List·Memᴰ·cases-cons m) (symbolRows-mem xs p q r)
+  where
+    go : (r ≡ testRow x eitherCounter p q) ⊎ List·Memᴰ r (symbolRows xs p q)
+        → (List·Memᴰ r (symbolRows xs p q) → (y : ℕ) × List·Memᴰ y xs × (r ≡ testRow y eitherCounter p q))
+        → (y : ℕ) × List·Memᴰ y (x ∷ xs) × (r ≡ testRow y eitherCounter p q)
+    go (inl e) rest = (x, List·Memᴰ·head refl, e)
+    go (inr d) rest = let f = rest d in (f .0, List·Memᴰ·tail (f .1), f .2)
