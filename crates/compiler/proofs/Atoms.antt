@@ -1,11 +1,11 @@
 -- What an atom's rows test: with either sign, one of them fits what is read and the counter exactly when the atom has that truth.
-use Prim.Native.Nat.{ℕ, zero, suc, _≤_, _<_, min, zero-le}
+use Prim.Native.Nat.{ℕ, zero, suc, _≤_, _<_, min}
 use native.Mathlib.Omega.{arith}
 use native.Mathlib.Decide.{ℕ-discrete, decLt}
 use mathlib.Core.Path.{_≡_, refl, sym, _∙_, ap}
 use mathlib.Core.Logic.{_≢_}
 use mathlib.Core.Bool.{Bool, true, false, not, _&&_, or-false, or-true}
-use mathlib.Core.List.{List, [], _∷_, List·Memᴰ, List·Memᴰ·head, List·Memᴰ·tail, Memᴰ·append-left, Memᴰ·append-right, List·Nodup, Memᴰ·cast, List·Memᴰ·eq-of-singleton}
+use mathlib.Core.List.{List, [], _∷_, List·Memᴰ, List·Memᴰ·head, List·Nodup, Memᴰ·cast, List·Memᴰ·eq-of-singleton}
 use lib.ListN.{length, getD}
 use lib.Dec.{ltb, eqb}
 use borrow.Author.Tests.{eqb-true, eqb-false, eq-eqb, ne-eqb, lt-ltb, le-ltb, not-true, not-false}
@@ -17,21 +17,37 @@ use Rattle.rule.specs.Limits.{value}
 use Rattle.rule.specs.Tree.{Number, Sought, letter, lend, rend, Atom, readIs, readIsNot, counterIs, counterIsNot}
 use Rattle.rule.specs.Meaning.{reads, atomHolds}
 use Rattle.rule.proofs.Within.{SoughtWithin, AtomWithin}
-use Rattle.compiler.specs.Construction.{leftMark, rightMark, anySymbol, testRow, eitherCounter, symbolRows, isRows, isNotRows, atomRows, indexIn, symbolCode, countUp, allSymbols, without}
-use Rattle.compiler.proofs.Own.{Every, every-nil, every-cons, every-append}
-use Rattle.compiler.proofs.Symbols.{Stands, index-stands, index-once, code-mem, mem-without, without-mem, mem-countUp, countUp-mem, mem-symbolRows, symbolRows-mem}
-
--- what is read is a mark or a letter of the alphabet
-abbrev pub Known : List ℕ → Symbol → Type 0
-Known alphabet Cell.leftMark = Unit
-Known alphabet (Cell.letter b) = List·Memᴰ b alphabet
-Known alphabet Cell.rightMark = Unit
-
--- its code
-abbrev pub codeOf : List ℕ → Symbol → ℕ
-codeOf alphabet Cell.leftMark = leftMark
-codeOf alphabet (Cell.letter b) = indexIn alphabet b
-codeOf alphabet Cell.rightMark = rightMark
+use Rattle.compiler.specs.Construction.{
+  leftMark,
+  rightMark,
+  anySymbol,
+  testRow,
+  eitherCounter,
+  symbolRows,
+  isRows,
+  isNotRows,
+  atomRows,
+  indexIn,
+  symbolCode,
+  countUp,
+  allSymbols,
+  without,
+}
+use Rattle.compiler.proofs.Every.{Every, every-nil, every-cons, every-append}
+use Rattle.compiler.proofs.Symbols.{
+  Stands,
+  index-stands,
+  index-once,
+  Known,
+  codeOf,
+  known-code,
+  code-mem,
+  mem-without,
+  without-mem,
+  countUp-mem,
+  mem-symbolRows,
+  symbolRows-mem,
+}
 
 -- two tests of equality that pass together
 same-test : (a b c d : ℕ) → (a ≡ b → c ≡ d) → (c ≡ d → a ≡ b) → eqb a b ≡ eqb c d
@@ -100,15 +116,7 @@ module _ (alphabet : List ℕ) (few : length alphabet ≤ 16) where
   reads-code rend (Cell.letter b) within known = mark-no-letter b 17 known (omega arith)
   reads-code rend Cell.rightMark within known = refl
 
-  -- what is read has one of the codes
-  known-code : (s : Symbol) → Known alphabet s → List·Memᴰ (codeOf alphabet s) (allSymbols alphabet)
-  known-code Cell.leftMark known = Memᴰ·append-right (countUp 0 (length alphabet)) (List·Memᴰ·head refl)
-  known-code (Cell.letter b) known =
-      Memᴰ·append-left _ (mem-countUp (length alphabet) 0 _ zero-le (omega (arith, index-stands alphabet b known .below)))
-  known-code Cell.rightMark known =
-      Memᴰ·append-right (countUp 0 (length alphabet)) (List·Memᴰ·tail (List·Memᴰ·head refl))
-
-  -- and a row for a code fits just the symbol with that code
+  -- a row for a code fits just the symbol with that code
   module _ (different : List·Nodup alphabet) where
     fits-letter :
         (y b : ℕ) → y ≢ 18 → List·Memᴰ b alphabet → symbolFits alphabet y (Cell.letter b) ≡ eqb y (indexIn alphabet b)
@@ -190,7 +198,7 @@ module _ (alphabet : List ℕ) (few : length alphabet ≤ 16) where
             symbols-pass (without (symbolCode alphabet x) (allSymbols alphabet)) others-not-any
             (mem-without (symbolCode alphabet x) (codeOf alphabet s) (allSymbols alphabet)
             (λ e. eqb-false (symbolCode alphabet x) (codeOf alphabet s) (sym (reads-code x s within known) ∙ fails) (sym e))
-            (known-code s known))
+            (known-code alphabet s known))
 
         pass-isNot : Passes alphabet s counter (isNotRows alphabet x p q) → reads x s ≡ false
         pass-isNot pass =

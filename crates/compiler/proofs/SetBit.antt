@@ -160,7 +160,7 @@ unfolding withBits
 bytes-withBits [] m h = h
 bytes-withBits (x ∷ xs) m h = bytes-withBits xs (withBit m x) (bytes-withBit m x h)
 
--- no bit of zeros is set
+-- zeros, by bytes and by bits
 byte-zeros : (n j : ℕ) → _≡_ {A = ℕ} (getD (replicate n 0) j 0) 0
 byte-zeros n j = go (decLt j n)
   where
@@ -168,17 +168,20 @@ byte-zeros n j = go (decLt j n)
     go (yes h) = getD-replicate n j 0 0 h
     go (no h) = List·getD-eq-default (replicate n 0) 0 (simp length-replicate (omega arith))
 
+-- no bit of zeros is set
 pub bit-zeros : (n i : ℕ) → bit (replicate n 0) i ≡ 0
 unfolding bit
 bit-zeros n i = ap (λ (b : ℕ). b / 2 ^ (i % 8) % 2) (byte-zeros n (i / 8)) ∙ ap (λ (b : ℕ). b % 2) (zero-div (2 ^ (i % 8)))
 
+-- zeros are bytes
 pub bytes-zeros : (n : ℕ) → Bytes (replicate n 0)
 bytes-zeros n j = rw byte-zeros (omega arith)
 
--- with zeros to begin with, a bit is 1 only for a state of the list, and else 0
+-- with zeros to begin with, the bit of every other state is 0
 pub bits-zero : (ss : List ℕ) (n s : ℕ) → ¬ List·Memᴰ s ss → bit (withBits (replicate n 0) ss) s ≡ 0
 bits-zero ss n s absent = bits-out ss (replicate n 0) s absent ∙ bit-zeros n s
 
+-- so a bit that is 1 is that of a state of the list
 pub bits-only : (ss : List ℕ) (n s : ℕ) → bit (withBits (replicate n 0) ss) s ≡ 1 → List·Memᴰ s ss
 bits-only ss n s one = go (isIn s ss) refl
   where

@@ -28,6 +28,8 @@ use lib.ListN.{length, length-append, getD}
 use lib.Dec.{eqb}
 use borrow.Author.Tests.{eqb-true, eqb-false, eq-eqb, ne-eqb}
 use Rattle.table.specs.Table.{Row}
+use Rattle.machine.specs.Cell as Cell
+use Rattle.machine.specs.Cell.{Symbol}
 use Rattle.rule.specs.Tree.{Sought, letter, lend, rend}
 use Rattle.rule.proofs.Within.{SoughtWithin}
 use Rattle.compiler.specs.Construction.{
@@ -81,21 +83,25 @@ index-once (x ∷ xs) (suc i) zero once h k e =
 index-once (x ∷ xs) (suc i) (suc j) once h k e =
     ap suc (index-once xs i j (nodup-cons .0 once .1) (omega arith) (omega arith) e)
 
--- the numbers from n on
+-- so many numbers from n on
 pub length-countUp : (n many : ℕ) → length (countUp n many) ≡ many
 unfolding countUp
 length-countUp n zero = refl
 length-countUp n (suc many) = ap suc (length-countUp (suc n) many)
 
+-- each of them is listed
 pub mem-countUp : (many n x : ℕ) → n ≤ x → x < n + many → List·Memᴰ x (countUp n many)
 unfolding countUp
 mem-countUp zero n x h k = absurd (omega arith)
 mem-countUp (suc many) n x h k = go (ℕ-discrete x n) (mem-countUp many (suc n) x)
   where
-    go : Dec (x ≡ n) → (suc n ≤ x → x < suc n + many → List·Memᴰ x (countUp (suc n) many)) → List·Memᴰ x (n ∷ countUp (suc n) many)
+    go : Dec (x ≡ n)
+        → (suc n ≤ x → x < suc n + many → List·Memᴰ x (countUp (suc n) many))
+        → List·Memᴰ x (n ∷ countUp (suc n) many)
     go (yes e) rest = List·Memᴰ·head e
     go (no e) rest = List·Memᴰ·tail (rest (omega arith) (omega arith))
 
+-- and nothing else
 pub countUp-mem : (many n x : ℕ) → List·Memᴰ x (countUp n many) → (n ≤ x) × (x < n + many)
 unfolding countUp
 countUp-mem zero n x m = absurd (List·Memᴰ·not-nil m)
@@ -114,7 +120,7 @@ nodup-countUp zero n = nodup-nil
 nodup-countUp (suc many) n =
     nodup-cons .1 (λ m. ∥∥₁-elim m ⊥-prop (λ d. omega (arith, countUp-mem many (suc n) n d)), nodup-countUp many (suc n))
 
--- what stays of a list without x
+-- the head of a list without x
 keeps : (x y : ℕ) (ys : List ℕ) → y ≢ x → without x (y ∷ ys) ≡ y ∷ without x ys
 unfolding without
 keeps x y ys e = rw (ne-eqb y x e, without)
@@ -123,6 +129,7 @@ drops : (x y : ℕ) (ys : List ℕ) → y ≡ x → without x (y ∷ ys) ≡ wit
 unfolding without
 drops x y ys e = rw (eq-eqb y x e, without)
 
+-- a list without an element that it has not
 pub without-absent : (x : ℕ) (l : List ℕ) → ¬ List·Memᴰ x l → without x l ≡ l
 unfolding without
 without-absent x [] absent = refl
@@ -147,6 +154,7 @@ length-without x (y ∷ ys) once m =
     go (no e) once (inl q) rest = absurd (e (sym q))
     go (no e) once (inr m) rest = ap (λ (l : List ℕ). suc (length l)) (keeps x y ys e) ∙ ap suc (rest (once .1) m)
 
+-- what is left is another element
 pub without-mem : (x y : ℕ) (l : List ℕ) → List·Memᴰ y (without x l) → (y ≢ x) × List·Memᴰ y l
 unfolding without
 without-mem x y [] m = absurd (List·Memᴰ·not-nil m)
@@ -164,6 +172,7 @@ without-mem x y (z ∷ zs) m = go (eqb z x) refl m (without-mem x y zs)
         (λ d. (rest d .0, List·Memᴰ·tail (rest d .1)))
         (List·Memᴰ·cases-cons m)
 
+-- and each other element is left
 pub mem-without : (x y : ℕ) (l : List ℕ) → y ≢ x → List·Memᴰ y l → List·Memᴰ y (without x l)
 unfolding without
 mem-without x y [] other m = m
@@ -192,17 +201,39 @@ nodup-symbols alphabet few =
     nodup-append .1 (
       nodup-countUp (length alphabet) 0,
       nodup-countUp 2 16,
-      λ a m n. ∥∥₁-elim m ⊥-prop (λ d. ∥∥₁-elim n ⊥-prop (λ e. omega (arith, countUp-mem (length alphabet) 0 a d, countUp-mem 2 16 a e))),
+      λ a m n. ∥∥₁-elim m ⊥-prop (λ d. ∥∥₁-elim n ⊥-prop (apart a d)),
     )
+  where
+    apart : (a : ℕ) → List·Memᴰ a (countUp 0 (length alphabet)) → List·Memᴰ a (countUp 16 2) → ⊥
+    apart a d e = omega (arith, countUp-mem (length alphabet) 0 a d, countUp-mem 2 16 a e)
 
--- what is sought in a condition is one of the symbols
-pub code-mem : (alphabet : List ℕ) (x : Sought) → SoughtWithin alphabet x → List·Memᴰ (symbolCode alphabet x) (allSymbols alphabet)
+-- what is read is a mark or a letter of the alphabet
+abbrev pub Known : List ℕ → Symbol → Type 0
+Known alphabet Cell.leftMark = Unit
+Known alphabet (Cell.letter b) = List·Memᴰ b alphabet
+Known alphabet Cell.rightMark = Unit
+
+-- its code
+abbrev pub codeOf : List ℕ → Symbol → ℕ
+codeOf alphabet Cell.leftMark = leftMark
+codeOf alphabet (Cell.letter b) = indexIn alphabet b
+codeOf alphabet Cell.rightMark = rightMark
+
+-- it is one of the symbols
+pub known-code : (alphabet : List ℕ) (s : Symbol) → Known alphabet s → List·Memᴰ (codeOf alphabet s) (allSymbols alphabet)
+known-code alphabet Cell.leftMark known = Memᴰ·append-right (countUp 0 (length alphabet)) (List·Memᴰ·head refl)
+known-code alphabet (Cell.letter b) known =
+    Memᴰ·append-left _ (mem-countUp (length alphabet) 0 _ zero-le (omega (arith, index-stands alphabet b known .below)))
+known-code alphabet Cell.rightMark known =
+    Memᴰ·append-right (countUp 0 (length alphabet)) (List·Memᴰ·tail (List·Memᴰ·head refl))
+
+-- and so is what a condition seeks
+pub code-mem :
+    (alphabet : List ℕ) (x : Sought) → SoughtWithin alphabet x → List·Memᴰ (symbolCode alphabet x) (allSymbols alphabet)
 unfolding symbolCode SoughtWithin
-code-mem alphabet (letter l) m =
-    Memᴰ·append-left _
-    (mem-countUp (length alphabet) 0 _ zero-le (omega (arith, index-stands alphabet (l .byte) m .below)))
-code-mem alphabet lend m = Memᴰ·append-right (countUp 0 (length alphabet)) (List·Memᴰ·head refl)
-code-mem alphabet rend m = Memᴰ·append-right (countUp 0 (length alphabet)) (List·Memᴰ·tail (List·Memᴰ·head refl))
+code-mem alphabet (letter l) m = known-code alphabet (Cell.letter (l .byte)) m
+code-mem alphabet lend m = known-code alphabet Cell.leftMark m
+code-mem alphabet rend m = known-code alphabet Cell.rightMark m
 
 -- so there are k + 1 others
 pub length-others :
@@ -224,6 +255,7 @@ unfolding symbolRows
 mem-symbolRows xs p q x (List·Memᴰ·head e) = List·Memᴰ·head (ap (λ (y : ℕ). testRow y eitherCounter p q) e)
 mem-symbolRows xs p q x (List·Memᴰ·tail {xs = ys} m) = List·Memᴰ·tail (mem-symbolRows ys p q x m)
 
+-- and no other row
 pub symbolRows-mem :
     (xs : List ℕ) (p q : ℕ) (r : Row)
     → List·Memᴰ r (symbolRows xs p q)
