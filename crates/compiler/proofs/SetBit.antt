@@ -35,7 +35,7 @@ power-other a c other = go (decLt a c)
         ap (λ (n : ℕ). 2 ^ n / 2 ^ c % 2) more ∙ power-below (a - suc c) c
 
 -- a number with a bit set is that number or the power of two
-set-or : (x a : ℕ) → x + (1 - x / 2 ^ a % 2) * 2 ^ a ≡ bitOr x (2 ^ a)
+pub set-or : (x a : ℕ) → x + (1 - x / 2 ^ a % 2) * 2 ^ a ≡ bitOr x (2 ^ a)
 set-or x a = go (x / 2 ^ a % 2) (omega arith) (sym (ap (λ (n : ℕ). bitOr x (2 ^ a) + n) shared) ∙ or-add-and x (2 ^ a))
   where
     shared : bitAnd x (2 ^ a) ≡ x / 2 ^ a % 2 * 2 ^ a
@@ -59,11 +59,12 @@ or-one (suc (suc b)) h = absurd (omega arith)
 
 module _ (m : List ℕ) (i : ℕ) where
   -- the byte that holds the bit, as it becomes
-  new : ℕ
+  abbrev pub new : ℕ
   new = bitOr (getD m (i / 8) 0) (2 ^ (i % 8))
 
-  with-bit : withBit m i ≡ set m (i / 8) new
-  unfolding withBit bit new
+  -- a bit is set by storing that byte
+  pub with-bit : withBit m i ≡ set m (i / 8) new
+  unfolding withBit bit
   with-bit = ap (λ (n : ℕ). set m (i / 8) n) (set-or (getD m (i / 8) 0) (i % 8))
 
   -- that byte, the others, and a bit past the end
@@ -78,7 +79,7 @@ module _ (m : List ℕ) (i : ℕ) where
 
   -- the bit that is set
   pub bit-same : i / 8 < length m → bit (withBit m i) i ≡ 1
-  unfolding bit new
+  unfolding bit
   bit-same h =
       ap (λ (n : ℕ). n / 2 ^ (i % 8) % 2) (byte-same h)
       ∙ or-bit (getD m (i / 8) 0) (i % 8) (i % 8)
@@ -87,7 +88,7 @@ module _ (m : List ℕ) (i : ℕ) where
 
   -- every other bit
   pub bit-other : (j : ℕ) → j ≢ i → bit (withBit m i) j ≡ bit m j
-  unfolding bit new
+  unfolding bit
   bit-other j other = go (ℕ-discrete (j / 8) (i / 8)) (decLt (i / 8) (length m))
     where
       go : Dec (j / 8 ≡ i / 8) → Dec (i / 8 < length m) → bit (withBit m i) j ≡ bit m j
@@ -108,7 +109,6 @@ module _ (m : List ℕ) (i : ℕ) where
 
   -- and bytes still
   pub bytes-withBit : Bytes m → Bytes (withBit m i)
-  unfolding new
   bytes-withBit h j = go (ℕ-discrete j (i / 8)) (decLt (i / 8) (length m))
     where
       go : Dec (j ≡ i / 8) → Dec (i / 8 < length m) → getD (withBit m i) j 0 < 256
