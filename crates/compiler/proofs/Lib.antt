@@ -1,0 +1,3 @@
+-- Laws of the construction.
+pub mod Symbols
+pub mod Counts
