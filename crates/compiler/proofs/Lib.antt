@@ -1,3 +1,4 @@
 -- Laws of the construction.
 pub mod Symbols
 pub mod Counts
+pub mod Atoms
