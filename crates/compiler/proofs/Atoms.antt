@@ -31,6 +31,7 @@ use Rattle.table.specs.Table.{Row}
 use Rattle.machine.specs.Cell as Cell
 use Rattle.machine.specs.Cell.{Symbol}
 use Rattle.machine.specs.Step.{symbolFits, counterFits}
+use Rattle.machine.proofs.Fits.{any-fits, either-fits, zero-fits, above-fits}
 use Rattle.rule.specs.Tree.{
   Sought,
   letter,
@@ -128,17 +129,6 @@ pub record Passing (alphabet : List ℕ) (symbol : Symbol) (counter p q : ℕ) (
   pub onSymbol : symbolFits alphabet code symbol ≡ true
   pub onCounter : counterFits test counter ≡ true
 
--- any symbol passes, and either counter
-any-fits : (alphabet : List ℕ) (symbol : Symbol) → symbolFits alphabet anySymbol symbol ≡ true
-unfolding symbolFits
-any-fits alphabet Cell.leftMark = refl
-any-fits alphabet (Cell.letter b) = or-true (ltb anySymbol (length alphabet) && eqb (getD alphabet anySymbol 0) b)
-any-fits alphabet Cell.rightMark = refl
-
-either-fits : (counter : ℕ) → counterFits eitherCounter counter ≡ true
-unfolding counterFits
-either-fits counter = or-true (eqb 2 (min counter 1))
-
 -- a row of one of these symbols passes
 passing-symbol
     : {alphabet : List ℕ} {symbol : Symbol} {counter p q code : ℕ} (codes : List ℕ)
@@ -165,16 +155,6 @@ passing-counter {symbol = symbol} {counter} test = (
     rw here at (r .onCounter),
 )
 
--- zero and above zero
-zero-fits : (counter : ℕ) → counterFits 0 counter ≡ eqb counter 0
-unfolding counterFits
-zero-fits counter = or-false _ ∙ eqb-same 0 (min counter 1) counter 0 (λ e. omega arith) (λ e. omega arith)
-
-above-fits : (counter : ℕ) → counterFits 1 counter ≡ not (eqb counter 0)
-unfolding counterFits
-above-fits zero = refl
-above-fits (suc n) = rw (eq-eqb 1 (min (suc n) 1) (omega arith), eqb·suc-zero)
-
 module _ {alphabet : List ℕ} {symbol : Symbol} {counter p q : ℕ} where
   zero-passes : (eqb counter 0 ≡ true) ↔ Passing alphabet symbol counter p q (testRow anySymbol 0 p q ∷ [])
   zero-passes = rw (← (zero-fits counter)) (passing-counter 0)
@@ -184,6 +164,31 @@ module _ {alphabet : List ℕ} {symbol : Symbol} {counter p q : ℕ} where
     λ e. passing-counter 1 .0 (above-fits counter ∙ ap not e),
     λ r. not-true _ (sym (above-fits counter) ∙ passing-counter 1 .1 r),
   )
+
+-- all of them are tests from p to q
+symbol-tests : (codes : List ℕ) (p q : ℕ) (r : Row) → List·Memᴰ r (symbolRows codes p q) → r ≡ testRow (r .symbol) (r .test) p q
+unfolding symbolRows
+symbol-tests [] p q r m = absurd (List·Memᴰ·not-nil m)
+symbol-tests (x ∷ xs) p q r (List·Memᴰ·head e) = rw e
+symbol-tests (x ∷ xs) p q r (List·Memᴰ·tail m) = symbol-tests xs p q r m
+
+one-test : {code test p q : ℕ} (r : Row) → List·Memᴰ r (testRow code test p q ∷ []) → r ≡ testRow (r .symbol) (r .test) p q
+one-test r m = rw (List·Memᴰ·eq-of-singleton m)
+
+-- an atom's rows are tests from p to q
+pub atom-tests
+    : (alphabet : List ℕ) (sign : Bool) (a : Atom) (p q : ℕ) (r : Row)
+    → List·Memᴰ r (atomRows alphabet sign a p q)
+    → r ≡ testRow (r .symbol) (r .test) p q
+unfolding atomRows
+atom-tests alphabet true (readIs x) p q = symbol-tests _ p q
+atom-tests alphabet false (readIs x) p q = symbol-tests _ p q
+atom-tests alphabet true (readIsNot x) p q = symbol-tests _ p q
+atom-tests alphabet false (readIsNot x) p q = symbol-tests _ p q
+atom-tests alphabet true (counterIs n) p q = one-test
+atom-tests alphabet false (counterIs n) p q = one-test
+atom-tests alphabet true (counterIsNot n) p q = one-test
+atom-tests alphabet false (counterIsNot n) p q = one-test
 
 module _ (alphabet : List ℕ) (few : length alphabet ≤ 16) where
   codes-below : (code : ℕ) → List·Memᴰ code (allSymbols alphabet) → code < 18
