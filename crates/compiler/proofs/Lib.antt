@@ -2,3 +2,4 @@
 pub mod Symbols
 pub mod Counts
 pub mod Atoms
+pub mod Plain
