@@ -1,5 +1,9 @@
 -- Laws of the construction.
 pub mod Symbols
 pub mod Counts
+pub mod Own
+pub mod Codes
+pub mod SetBit
+pub mod WellFormed
 pub mod Atoms
 pub mod Plain
