@@ -62,6 +62,7 @@ use Rattle.compiler.specs.Construction.{
   isNotRows,
   atomRows,
 }
+use Rattle.compiler.proofs.Truth.{turned}
 use Rattle.compiler.proofs.Symbols.{index-stands, mem-countUp, countUp-mem, without-mem, mem-without, code-mem}
 
 -- what stands on a cell is a mark or a letter of the alphabet
@@ -91,11 +92,6 @@ index-only (x ∷ xs) b (suc i) once h e =
     let rest = nodup-cons .0 once in
     let here : List·Memᴰ b xs = Memᴰ·cast (sym e) (getD-mem xs i (omega arith)) in
     rw (ne-eqb b x (λ q. rest .0 ∣ Memᴰ·cast (sym q) here ∣₁), indexIn) (ap suc (index-only xs b i (rest .1) (omega arith) e))
-
--- a negation has the other truth value
-turned : (b sign : Bool) → (not b ≡ sign) ↔ (b ≡ not sign)
-turned b true = (not-true b, ap not)
-turned b false = (not-false b, ap not)
 
 -- two tests for equality with the same answer
 eqb-same : (a b c d : ℕ) → (a ≡ b → c ≡ d) → (c ≡ d → a ≡ b) → eqb a b ≡ eqb c d

@@ -5,5 +5,7 @@ pub mod Own
 pub mod Codes
 pub mod SetBit
 pub mod WellFormed
+pub mod Truth
 pub mod Atoms
 pub mod Plain
+pub mod ToTable
