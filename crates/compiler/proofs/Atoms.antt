@@ -6,7 +6,7 @@ use native.Mathlib.Decide.{ℕ-discrete}
 use mathlib.Core.Path.{_≡_, refl, sym, _∙_, ap}
 use mathlib.Core.Logic.{_↔_, Iff·trans, _≢_, _⊎_, inl, inr, ∥∥₁-elim}
 use mathlib.Core.HLevel.{⊥-prop}
-use mathlib.Core.Bool.{Bool, true, false, not, _||_, _&&_, or-false, or-true, and-eq-true-iff, true≢false}
+use mathlib.Core.Bool.{Bool, true, false, cond, not, _||_, _&&_, or-false, or-true, and-eq-true-iff, true≢false}
 use mathlib.Core.List.{
   List,
   [],
@@ -29,7 +29,7 @@ use lib.Dec.{eqb, ltb, eqb·suc-zero}
 use borrow.Author.Tests.{eqb-true, eqb-false, eq-eqb, ne-eqb, ltb-true, lt-ltb, not-true, not-false}
 use Rattle.table.specs.Table.{Row}
 use Rattle.machine.specs.Cell as Cell
-use Rattle.machine.specs.Cell.{Symbol}
+use Rattle.machine.specs.Cell.{Symbol, symbolOn}
 use Rattle.machine.specs.Step.{symbolFits, counterFits}
 use Rattle.machine.proofs.Fits.{any-fits, either-fits, zero-fits, above-fits}
 use Rattle.rule.specs.Tree.{
@@ -70,6 +70,19 @@ unfoldable pub SymbolWithin : List ℕ → Symbol → Type 0
 SymbolWithin alphabet Cell.leftMark = Unit
 SymbolWithin alphabet (Cell.letter b) = List·Memᴰ b alphabet
 SymbolWithin alphabet Cell.rightMark = Unit
+
+-- on a word of its letters
+pub symbol-within
+    : (alphabet word : List ℕ)
+    → ((i : ℕ) → i < length word → List·Memᴰ (getD word i 0) alphabet)
+    → (cell : ℕ) → SymbolWithin alphabet (symbolOn word cell)
+unfolding symbolOn SymbolWithin
+symbol-within alphabet word letters zero = tt
+symbol-within alphabet word letters (suc i) = go (ltb i (length word)) refl
+  where
+    go : (b : Bool) → ltb i (length word) ≡ b → SymbolWithin alphabet (cond b (Cell.letter (getD word i 0)) Cell.rightMark)
+    go true e = letters i (ltb-true i (length word) e)
+    go false e = tt
 
 -- its code
 unfoldable pub codeOf : List ℕ → Symbol → ℕ

@@ -47,11 +47,30 @@ use Rattle.rule.specs.Tree.{
   lastArm,
   moreArms,
 }
-use Rattle.rule.specs.Meaning.{holds, _before_}
+use Rattle.rule.specs.Meaning.{
+  holds,
+  _before_,
+  Arm,
+  lastOne,
+  thisOne,
+  another,
+  Turns,
+  ifHolds,
+  ifFails,
+  elseHolds,
+  elseFails,
+  whileHolds,
+  whileFails,
+  goesRound,
+  stops,
+  firstArm,
+  otherArm,
+}
 use Rattle.rule.proofs.Within.{ConditionWithin, StatementWithin, StatementsWithin, ArmsWithin}
 use Rattle.compiler.specs.Construction.{
   testRow,
   free,
+  Added,
   Walk,
   oneAfterOther,
   oneOrOther,
@@ -98,9 +117,104 @@ pub data Stands (t : Table) : ℕ → Statements → Type 0 where
   front : {s : ℕ} (next : ℕ) {a : Statement} {rest : Statements}
       → StatementWithin (t .alphabet) a
       → Has t (statementPart (t .alphabet) a s next)
-      → Stands t (statementPart (t .alphabet) a s next .exit) rest
+      → Stands t next rest
       → Stands t s (a then rest)
   onward : {s u : ℕ} {k : Statements} → List·Memᴰ (free s u) (t .rows) → Stands t u k → Stands t s k
+
+-- the parts of an if, a loop, an arm and of one part after another
+record IfRows (t : Table) (tests : Added) (yesPart noPart : Part) (q : ℕ) : Type 0 where
+  testing : Listed t (tests .rows)
+  yesHas : Has t yesPart
+  yesFree : List·Memᴰ (free (yesPart .exit) q) (t .rows)
+  noHas : Has t noPart
+  noFree : List·Memᴰ (free (noPart .exit) q) (t .rows)
+
+record LoopRows (t : Table) (first : List Row) (body : Part) (p : ℕ) : Type 0 where
+  starting : Listed t first
+  bodyHas : Has t body
+  back : List·Memᴰ (free (body .exit) p) (t .rows)
+
+record ArmRows (t : Table) (body : Part) (p a q : ℕ) : Type 0 where
+  into : List·Memᴰ (free p a) (t .rows)
+  bodyHas : Has t body
+  out : List·Memᴰ (free (body .exit) q) (t .rows)
+
+module _ {t : Table} where
+  if-rows : {tests : Added} {yesPart noPart : Part} {q : ℕ} → Has t (ifPart tests yesPart noPart q) → IfRows t tests yesPart noPart q
+  unfolding ifPart
+  if-rows {tests} {yesPart} {noPart} h =
+      let behind = every-right (tests .rows) _ (h .rows) in
+      let free = every-right (yesPart .rows) _ behind in
+      let other = every-tail free in
+      record {
+        testing = every-left (tests .rows) _ (h .rows);
+        yesHas = record { rows = every-left (yesPart .rows) _ behind; accepting = every-left (yesPart .accepting) _ (h .accepting) };
+        yesFree = every-head free;
+        noHas = record { rows = every-left (noPart .rows) _ other; accepting = every-right (yesPart .accepting) _ (h .accepting) };
+        noFree = every-head (every-right (noPart .rows) _ other);
+      }
+
+  loop-rows : {first : List Row} {body : Part} {p : ℕ} (q : ℕ) → Has t (loopPart first body p q) → LoopRows t first body p
+  unfolding loopPart
+  loop-rows {first} {body} q h =
+      let behind = every-right first _ (h .rows) in
+      record {
+        starting = every-left first _ (h .rows);
+        bodyHas = record { rows = every-left (body .rows) _ behind; accepting = h .accepting };
+        back = every-head (every-right (body .rows) _ behind);
+      }
+
+  arm-rows : {body : Part} {p a q : ℕ} → Has t (armPart body p a q) → ArmRows t body p a q
+  unfolding armPart
+  arm-rows {body} h =
+      let behind = every-tail (h .rows) in
+      record {
+        into = every-head (h .rows);
+        bodyHas = record { rows = every-left (body .rows) _ behind; accepting = h .accepting };
+        out = every-head (every-right (body .rows) _ behind);
+      }
+
+  then-first : (a b : Part) → Has t (andThen a b) → Has t a
+  unfolding andThen
+  then-first a b h =
+      record { rows = every-left (a .rows) _ (h .rows); accepting = every-left (a .accepting) _ (h .accepting) }
+
+  then-second : (a b : Part) → Has t (andThen a b) → Has t b
+  unfolding andThen
+  then-second a b h =
+      record { rows = every-right (a .rows) _ (h .rows); accepting = every-right (a .accepting) _ (h .accepting) }
+
+-- a statement exits in the first state that it takes
+arms-exit : (alphabet : List ℕ) (a : Arms) (p q next : ℕ) → armsPart alphabet a p q next .exit ≡ q
+unfolding armsPart armPart andThen
+arms-exit alphabet (lastArm t o b) p q next = refl
+arms-exit alphabet (moreArms t o b a) p q next = arms-exit alphabet a p q _
+
+statement-exit : (alphabet : List ℕ) (a : Statement) (p next : ℕ) → statementPart alphabet a p next .exit ≡ next
+unfolding statementPart ifPart loopPart andThen
+statement-exit alphabet (plain e) p next = refl
+statement-exit alphabet accept p next = refl
+statement-exit alphabet reject p next = refl
+statement-exit alphabet (if c o b) p next = refl
+statement-exit alphabet (ifElse c o b o′ b′) p next = refl
+statement-exit alphabet (while c o b) p next = refl
+statement-exit alphabet (choose o b) p next = refl
+statement-exit alphabet (branch o b a) p next = arms-exit alphabet a p next _
+
+-- the first state of a block stands for the block and what its exit stands for
+block-stands
+    : {t : Table} (b : Statements) (s next : ℕ) {k : Statements}
+    → StatementsWithin (t .alphabet) b
+    → Has t (statementsPart (t .alphabet) b s next)
+    → Stands t (statementsPart (t .alphabet) b s next .exit) k
+    → Stands t s (b before k)
+unfolding statementsPart andThen _before_ StatementsWithin
+block-stands done s next within has after = after
+block-stands {t} (a then b) s next within has after =
+    let first = statementPart (t .alphabet) a s next in
+    let second = statementsPart (t .alphabet) b (first .exit) (first .next) in
+    front next (within .0) (then-first first second has)
+    (rw statement-exit at (block-stands b (first .exit) (first .next) (within .1) (then-second first second has) after))
 
 module _ (t : Table) (word : List ℕ) (limit : ℕ) where
   -- a run of the table comes here
@@ -190,3 +304,155 @@ module _ (t : Table) (word : List ℕ) (limit : ℕ) where
           leads-where (one-true _ _ .0) (or-leads (walk-leads c true (within .0)) (walk-leads d true (within .1)))
       walk-leads (either c d) false within =
           leads-where (both-false _ _ .0) (after-leads (walk-leads c false (within .0)) (walk-leads d false (within .1)))
+
+  -- a run of the table comes to a state that stands for these statements
+  record Arrived (k : Statements) (cell counter : ℕ) : Type 0 where
+    state : ℕ
+    reached : At state cell counter
+    stands : Stands t state k
+
+  -- a run of the table comes to the state where this statement starts
+  record Starts (a : Statement) (rest : Statements) (cell counter : ℕ) : Type 0 where
+    state : ℕ
+    next : ℕ
+    reached : At state cell counter
+    within : StatementWithin (t .alphabet) a
+    has : Has t (statementPart (t .alphabet) a state next)
+    after : Stands t next rest
+
+  -- the state where it starts stands for it and the rest
+  again : {a : Statement} {rest : Statements} {cell counter : ℕ} (f : Starts a rest cell counter) → Stands t (f .state) (a then rest)
+  again f = front (f .next) (f .within) (f .has) (f .after)
+
+  module _ {cell counter : ℕ} (inside : cell ≤ last word) (low : counter ≤ limit) where
+    -- over free rows to where the first statement starts
+    settle : {s : ℕ} {a : Statement} {rest : Statements} → At s cell counter → Stands t s (a then rest) → Starts a rest cell counter
+    settle at (front {s = s} next within has after) =
+        record { state = s; next = next; reached = at; within = within; has = has; after = after }
+    settle at (onward m more) = settle (free-goes inside low m at) more
+
+    -- over an arm's free row into it
+    arm-arrives
+        : (b : Statements) (p a q next : ℕ) {rest : Statements}
+        → StatementsWithin (t .alphabet) b
+        → Has t (armPart (statementsPart (t .alphabet) b a next) p a q)
+        → Stands t q rest
+        → At p cell counter
+        → Arrived (b before rest) cell counter
+    arm-arrives b p a q next within has after at =
+        let rows = arm-rows has in
+        record {
+          state = a;
+          reached = free-goes inside low (rows .into) at;
+          stands = block-stands b a next within (rows .bodyHas) (onward (rows .out) after);
+        }
+
+    arms-arrive
+        : {b : Statements} {a : Arms} (p q next : ℕ) {rest : Statements}
+        → Arm b a
+        → ArmsWithin (t .alphabet) a
+        → Has t (armsPart (t .alphabet) a p q next)
+        → Stands t q rest
+        → At p cell counter
+        → Arrived (b before rest) cell counter
+    unfolding armsPart ArmsWithin armPart
+    arms-arrive p q next (lastOne {b = b}) within has after at = arm-arrives b p next q (suc next) within has after at
+    arms-arrive p q next (thisOne {b = b}) within has after at =
+        arm-arrives b p next q (suc next) (within .0) (then-first _ _ has) after at
+    arms-arrive p q next (another m) within has after at =
+        arms-arrive p q _ m (within .1) (then-second _ _ has) after at
+
+    module _ (few : length (t .alphabet) ≤ 16) (different : List·Nodup (t .alphabet)) (letter : SymbolWithin (t .alphabet) (symbolOn word cell)) where
+      -- over a condition's rows, or its negation's
+      holding-leads
+          : (c : Condition) (p x y next : ℕ)
+          → ConditionWithin (t .alphabet) c
+          → holds (symbolOn word cell) counter c ≡ true
+          → Listed t (test (t .alphabet) c p x y next .rows)
+          → At p cell counter
+          → At x cell counter
+      unfolding test
+      holding-leads c p x y next within e rows =
+          walk-leads inside low few different letter c true within .leads p x next e
+          (every-left (walk (t .alphabet) c true p x next .rows) _ rows)
+
+      failing-leads
+          : (c : Condition) (p x y next : ℕ)
+          → ConditionWithin (t .alphabet) c
+          → holds (symbolOn word cell) counter c ≡ false
+          → Listed t (test (t .alphabet) c p x y next .rows)
+          → At p cell counter
+          → At y cell counter
+      unfolding test
+      failing-leads c p x y next within e rows =
+          let holding = walk (t .alphabet) c true p x next in
+          walk-leads inside low few different letter c false within .leads p y (holding .next) e
+          (every-right (holding .rows) _ rows)
+
+      -- a statement turns into others: over the rows of its test, or a free row
+      turns-arrives
+          : {a : Statement} {rest next : Statements}
+          → Turns (symbolOn word cell) counter a rest next
+          → Starts a rest cell counter
+          → Arrived next cell counter
+      unfolding statementPart StatementWithin
+      turns-arrives (ifHolds {c = c} {b = b} e) f =
+          let rows = if-rows (f .has) in
+          record {
+            state = f .next + 1;
+            reached = holding-leads c _ _ _ _ (f .within .0) e (rows .testing) (f .reached);
+            stands = block-stands b _ _ (f .within .1) (rows .yesHas) (onward (rows .yesFree) (f .after));
+          }
+      turns-arrives (ifFails {c = c} e) f =
+          let rows = if-rows (f .has) in
+          record {
+            state = f .next + 2;
+            reached = failing-leads c _ _ _ _ (f .within .0) e (rows .testing) (f .reached);
+            stands = onward (rows .noFree) (f .after);
+          }
+      turns-arrives (elseHolds {c = c} {b = b} e) f =
+          let rows = if-rows (f .has) in
+          record {
+            state = f .next + 1;
+            reached = holding-leads c _ _ _ _ (f .within .0) e (rows .testing) (f .reached);
+            stands = block-stands b _ _ (f .within .1) (rows .yesHas) (onward (rows .yesFree) (f .after));
+          }
+      turns-arrives (elseFails {c = c} {b′ = b′} e) f =
+          let rows = if-rows (f .has) in
+          record {
+            state = f .next + 2;
+            reached = failing-leads c _ _ _ _ (f .within .0) e (rows .testing) (f .reached);
+            stands = block-stands b′ _ _ (f .within .2) (rows .noHas) (onward (rows .noFree) (f .after));
+          }
+      turns-arrives (whileHolds {c = c} {b = b} e) f =
+          let rows = loop-rows _ (f .has) in
+          record {
+            state = f .next + 1;
+            reached = holding-leads c _ _ _ _ (f .within .0) e (rows .starting) (f .reached);
+            stands = block-stands b _ _ (f .within .1) (rows .bodyHas) (onward (rows .back) (again f));
+          }
+      turns-arrives (whileFails {c = c} e) f =
+          let rows = loop-rows _ (f .has) in
+          record {
+            state = f .next;
+            reached = failing-leads c _ _ _ _ (f .within .0) e (rows .starting) (f .reached);
+            stands = f .after;
+          }
+      turns-arrives (goesRound {b = b}) f =
+          let rows = loop-rows _ (f .has) in
+          record {
+            state = f .next + 1;
+            reached = free-goes inside low (every-head (rows .starting)) (f .reached);
+            stands = block-stands b _ _ (f .within) (rows .bodyHas) (onward (rows .back) (again f));
+          }
+      turns-arrives stops f =
+          let rows = loop-rows _ (f .has) in
+          record {
+            state = f .next;
+            reached = free-goes inside low (every-head (every-tail (rows .starting))) (f .reached);
+            stands = f .after;
+          }
+      turns-arrives (firstArm {b = b}) f =
+          arm-arrives b _ _ _ _ (f .within .0) (then-first _ _ (f .has)) (f .after) (f .reached)
+      turns-arrives (otherArm m) f =
+          arms-arrive _ _ _ m (f .within .1) (then-second _ _ (f .has)) (f .after) (f .reached)
