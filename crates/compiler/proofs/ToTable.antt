@@ -21,7 +21,7 @@ use lib.ListN.{length, getD}
 use Rattle.table.specs.Table.{Row, Table, Accepting}
 use Rattle.machine.specs.Cell.{symbolOn, last}
 use Rattle.machine.specs.Step.{Situation, symbolFits, counterFits}
-use Rattle.machine.specs.Run.{Reach, begins, goes}
+use Rattle.machine.specs.Run.{Reach, begins, goes, Accepts}
 use Rattle.machine.proofs.Fits.{any-fits, either-fits, stays, keeps, fits-row}
 use Rattle.rule.specs.Tree.{
   Condition,
@@ -46,9 +46,13 @@ use Rattle.rule.specs.Tree.{
   Arms,
   lastArm,
   moreArms,
+  Program,
 }
+use Rattle.rule.specs.Meaning as Meaning
 use Rattle.rule.specs.Meaning.{
   holds,
+  cellAfter,
+  counterAfter,
   _before_,
   Arm,
   lastOne,
@@ -65,11 +69,18 @@ use Rattle.rule.specs.Meaning.{
   stops,
   firstArm,
   otherArm,
+  Standing,
+  does,
+  turns,
+  Comes,
+  ProgramAccepts,
 }
+use Rattle.rule.proofs.Runs.{comes-inside, comes-low}
 use Rattle.rule.proofs.Within.{ConditionWithin, StatementWithin, StatementsWithin, ArmsWithin}
 use Rattle.compiler.specs.Construction.{
   testRow,
   free,
+  plainRow,
   Added,
   Walk,
   oneAfterOther,
@@ -88,6 +99,7 @@ use Rattle.compiler.specs.Construction.{
 use Rattle.compiler.proofs.Own.{Every}
 use Rattle.compiler.proofs.Truth.{turned, both-true, one-false, one-true, both-false}
 use Rattle.compiler.proofs.Atoms.{SymbolWithin, atom-passes}
+use Rattle.compiler.proofs.Plain.{plain-moves, plain-changes}
 
 -- these rows are among the table's
 abbrev pub Listed : Table → List Row → Type 0
@@ -456,3 +468,68 @@ module _ (t : Table) (word : List ℕ) (limit : ℕ) where
           arm-arrives b _ _ _ _ (f .within .0) (then-first _ _ (f .has)) (f .after) (f .reached)
       turns-arrives (otherArm m) f =
           arms-arrive _ _ _ m (f .within .1) (then-second _ _ (f .has)) (f .after) (f .reached)
+
+  -- a plain statement: over its row
+  plain-arrives
+      : {e : Plain} {rest : Statements} {cell counter counter′ : ℕ}
+      → cell ≤ last word
+      → counterAfter (t .stops) e counter ≡ some counter′
+      → counter′ ≤ limit
+      → Starts (plain e) rest cell counter
+      → Arrived rest (cellAfter word e cell) counter′
+  unfolding statementPart StatementWithin
+  plain-arrives {e} {cell = cell} {counter} inside h low f =
+      record {
+        state = f .next;
+        reached =
+            goes (f .reached)
+            (record {
+              row = plainRow e (f .state) (f .next);
+              listed = every-head (f .has .rows);
+              takes =
+                  record {
+                    fits =
+                        fits-row
+                        (record {
+                          state = refl;
+                          symbol = any-fits (t .alphabet) (symbolOn word cell);
+                          counter = either-fits counter;
+                        });
+                    state = refl;
+                    cell = sym (plain-moves word e cell (f .within) inside);
+                    counter = plain-changes (t .stops) e counter (f .within) ∙ h;
+                  };
+            })
+            low;
+        stands = f .after;
+      }
+
+  accept-accepts : {rest : Statements} {cell counter : ℕ} (f : Starts accept rest cell counter) → Accepting t (f .state)
+  unfolding statementPart
+  accept-accepts f = every-head (f .has .accepting)
+
+  module _
+      (few : length (t .alphabet) ≤ 16)
+      (different : List·Nodup (t .alphabet))
+      (letters : (cell : ℕ) → SymbolWithin (t .alphabet) (symbolOn word cell))
+      (p : Program)
+      (same : p .stops ≡ t .stops)
+      (body : Stands t 0 (p .body)) where
+    -- the table reaches what the program comes to
+    comes-arrives : {s : Standing} → Comes p word limit s → Arrived (s .left) (s .cell) (s .counter)
+    comes-arrives Meaning.begins = record { state = 0; reached = begins; stands = body }
+    comes-arrives (Meaning.goes came (does {counter = counter} h) low) =
+        let f = comes-arrives came in
+        let inside = comes-inside came in
+        plain-arrives inside (rw same at h) low (settle inside (comes-low came) (f .reached) (f .stands))
+    comes-arrives (Meaning.goes came (turns {cell = cell} h) low) =
+        let f = comes-arrives came in
+        let inside = comes-inside came in
+        turns-arrives inside low few different (letters cell) h (settle inside low (f .reached) (f .stands))
+
+    -- where the program accepts, the table does
+    pub to-table : ProgramAccepts p word limit → Accepts t word limit
+    to-table a =
+        let f = comes-arrives (a .comes) in
+        let g = settle (comes-inside (a .comes)) (comes-low (a .comes)) (f .reached) (f .stands) in
+        record { situation = _; reached = g .reached; accepting = accept-accepts g }
