@@ -9,3 +9,5 @@ pub mod Truth
 pub mod Atoms
 pub mod Plain
 pub mod ToTable
+pub mod Roles
+pub mod ToProgram

@@ -1,0 +1,110 @@
+-- The roles of states: what a program has left to run where its table is in that state. States are numbered as taken,
+-- so the roles stand in a list, in the order of the construction.
+use Prim.Native.Nat.{ℕ, zero, suc, _+_, _≤_, _<_}
+use native.Mathlib.Numerals.{add-one, add-two, add-three}
+use mathlib.Core.Path.{_≡_, refl}
+use mathlib.Core.Bool.{Bool, true, false, not}
+use mathlib.Core.List.{List, [], _∷_}
+use lib.ListN.{getD}
+use Rattle.rule.specs.Tree.{
+  Condition,
+  atom,
+  parens,
+  negation,
+  both,
+  either,
+  Statement,
+  plain,
+  accept,
+  reject,
+  if,
+  ifElse,
+  while,
+  choose,
+  branch,
+  Statements,
+  done,
+  _then_,
+  Arms,
+  lastArm,
+  moreArms,
+}
+use Rattle.rule.specs.Meaning.{_before_}
+
+-- these statements are left to run; or as before, and a condition is known to have this truth value
+pub data Role : Type 0 where
+  leaves : Statements → Role
+  knows : Role → Condition → Bool → Role
+
+-- the roles of the states that a condition's walk takes, from a state with this role; and then more
+unfoldable pub walkRoles : Condition → Bool → Role → List Role → List Role
+walkRoles (atom a) sign m more = more
+walkRoles (parens o c) sign m more = walkRoles c sign m more
+walkRoles (negation o c) sign m more = walkRoles c (not sign) m more
+walkRoles (both c d) true m more = knows m c true ∷ walkRoles c true m (walkRoles d true (knows m c true) more)
+walkRoles (both c d) false m more = walkRoles c false m (walkRoles d false m more)
+walkRoles (either c d) true m more = walkRoles c true m (walkRoles d true m more)
+walkRoles (either c d) false m more = knows m c false ∷ walkRoles c false m (walkRoles d false (knows m c false) more)
+
+unfoldable pub testRoles : Condition → Role → List Role → List Role
+testRoles c m more = walkRoles c true m (walkRoles c false m more)
+
+-- those that statements take, with these statements after them
+unfoldable mutual
+  pub statementRoles : Statement → Statements → List Role → List Role
+  statementRoles (plain e) rest more = leaves rest ∷ more
+  statementRoles accept rest more = leaves rest ∷ more
+  statementRoles reject rest more = leaves rest ∷ more
+  statementRoles (if c o b) rest more =
+      leaves rest
+      ∷ leaves (b before rest)
+      ∷ leaves rest
+      ∷ testRoles c (leaves (if c o b then rest)) (statementsRoles b rest more)
+  statementRoles (ifElse c o b o′ b′) rest more =
+      leaves rest
+      ∷ leaves (b before rest)
+      ∷ leaves (b′ before rest)
+      ∷ testRoles c (leaves (ifElse c o b o′ b′ then rest)) (statementsRoles b rest (statementsRoles b′ rest more))
+  statementRoles (while c o b) rest more =
+      leaves rest
+      ∷ leaves (b before (while c o b then rest))
+      ∷ testRoles c (leaves (while c o b then rest)) (statementsRoles b (while c o b then rest) more)
+  statementRoles (choose o b) rest more =
+      leaves rest ∷ leaves (b before (choose o b then rest)) ∷ statementsRoles b (choose o b then rest) more
+  statementRoles (branch o b a) rest more =
+      leaves rest ∷ leaves (b before rest) ∷ statementsRoles b rest (armsRoles a rest more)
+
+  pub statementsRoles : Statements → Statements → List Role → List Role
+  statementsRoles done rest more = more
+  statementsRoles (a then b) rest more = statementRoles a (b before rest) (statementsRoles b rest more)
+
+  pub armsRoles : Arms → Statements → List Role → List Role
+  armsRoles (lastArm t o b) rest more = leaves (b before rest) ∷ statementsRoles b rest more
+  armsRoles (moreArms t o b a) rest more = leaves (b before rest) ∷ statementsRoles b rest (armsRoles a rest more)
+
+-- the states from n on have these roles
+abbrev pub Given : (ℕ → Role) → ℕ → List Role → Type 0
+Given role n [] = Unit
+Given role n (m ∷ ms) = (role n ≡ m) × Given role (suc n) ms
+
+-- a list gives the states from 0 on its roles
+given-shift : (role : ℕ → Role) (n : ℕ) (ms : List Role) → Given (λ s. role (suc s)) n ms → Given role (suc n) ms
+given-shift role n [] g = tt
+given-shift role n (m ∷ ms) g = (g .0, given-shift role (suc n) ms (g .1))
+
+pub given-all : (ms : List Role) (other : Role) → Given (λ s. getD ms s other) 0 ms
+given-all [] other = tt
+given-all (m ∷ ms) other = (refl, given-shift (λ s. getD (m ∷ ms) s other) 0 ms (given-all ms other))
+
+-- with numerals, as the construction writes them
+pub given-two
+    : (role : ℕ → Role) (n : ℕ) (a b : Role) (ms : List Role)
+    → Given role n (a ∷ b ∷ ms)
+    → (role n ≡ a) × (role (n + 1) ≡ b) × Given role (n + 2) ms
+given-two role n a b ms g = (g .0, rw add-one (g .1 .0), rw add-two (g .1 .1))
+
+pub given-three
+    : (role : ℕ → Role) (n : ℕ) (a b c : Role) (ms : List Role)
+    → Given role n (a ∷ b ∷ c ∷ ms)
+    → (role n ≡ a) × (role (n + 1) ≡ b) × (role (n + 2) ≡ c) × Given role (n + 3) ms
+given-three role n a b c ms g = (g .0, rw add-one (g .1 .0), rw add-two (g .1 .1 .0), rw add-three (g .1 .1 .1))

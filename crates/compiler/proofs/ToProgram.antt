@@ -1,0 +1,306 @@
+-- Table to program: in whatever situation the table is, the program has come to what the state's role says.
+-- It is enough that each row keeps this, and a row is met where the construction adds it.
+use Prim.Native.Nat.{ℕ, zero, suc, _+_, _≤_, _<_}
+use mathlib.Core.Path.{_≡_, refl, sym, _∙_, ap, subst}
+use mathlib.Core.Logic.{_⊎_, inl, inr}
+use mathlib.Core.Bool.{Bool, true, false, not}
+use mathlib.Core.Option.{Option, some, Option·some-injective}
+use mathlib.Core.List.{List, [], _∷_, _++_, List·Memᴰ, List·Nodup, Memᴰ·cast}
+use lib.ListN.{length, getD}
+use Rattle.table.specs.Table.{Row, Table}
+use Rattle.machine.specs.Cell.{symbolOn, last, moved}
+use Rattle.machine.specs.Step.{Situation, symbolFits, counterFits, changed, Takes}
+use Rattle.machine.proofs.Fits.{row-fits, stays, keeps}
+use Rattle.rule.specs.Tree.{
+  Condition,
+  atom,
+  parens,
+  negation,
+  both,
+  either,
+  Plain,
+  Statement,
+  plain,
+  accept,
+  reject,
+  if,
+  ifElse,
+  while,
+  choose,
+  branch,
+  Statements,
+  done,
+  _then_,
+  Arms,
+  lastArm,
+  moreArms,
+  Program,
+}
+use Rattle.rule.specs.Meaning.{
+  holds,
+  cellAfter,
+  counterAfter,
+  _before_,
+  Arm,
+  lastOne,
+  thisOne,
+  another,
+  Turns,
+  ifHolds,
+  ifFails,
+  elseHolds,
+  elseFails,
+  whileHolds,
+  whileFails,
+  goesRound,
+  stops,
+  firstArm,
+  otherArm,
+  Standing,
+  does,
+  turns,
+  Comes,
+  begins,
+  goes,
+}
+use Rattle.rule.proofs.Runs.{comes-inside, comes-low}
+use Rattle.rule.proofs.Within.{ConditionWithin, PlainWithin, StatementWithin, StatementsWithin, ArmsWithin}
+use Rattle.compiler.specs.Construction.{
+  testRow,
+  free,
+  plainRow,
+  Added,
+  Walk,
+  oneAfterOther,
+  oneOrOther,
+  walk,
+  Part,
+  test,
+  ifPart,
+  loopPart,
+  armPart,
+  andThen,
+  statementPart,
+  statementsPart,
+  armsPart,
+}
+use Rattle.compiler.proofs.Own.{Every, every-nil, every-cons, every-append}
+use Rattle.compiler.proofs.Truth.{turned, both-true, one-false, one-true, both-false}
+use Rattle.compiler.proofs.Atoms.{SymbolWithin, atom-passes, atom-tests}
+use Rattle.compiler.proofs.Plain.{plain-moves, plain-changes}
+use Rattle.compiler.proofs.Roles.{
+  Role,
+  leaves,
+  knows,
+  walkRoles,
+  testRoles,
+  statementRoles,
+  statementsRoles,
+  armsRoles,
+  Given,
+  given-two,
+  given-three,
+}
+
+-- the program has come to what a role says, on this cell with this counter
+pub data Here (p : Program) (word : List ℕ) (limit : ℕ) : Role → ℕ → ℕ → Type 0 where
+  comes : {k : Statements} {cell counter : ℕ}
+      → Comes p word limit (record { left = k; cell = cell; counter = counter })
+      → Here p word limit (leaves k) cell counter
+  knowing : {m : Role} {c : Condition} {sign : Bool} {cell counter : ℕ}
+      → Here p word limit m cell counter
+      → holds (symbolOn word cell) counter c ≡ sign
+      → Here p word limit (knows m c sign) cell counter
+
+module _ {p : Program} {word : List ℕ} {limit : ℕ} where
+  here-inside : {m : Role} {cell counter : ℕ} → Here p word limit m cell counter → cell ≤ last word
+  here-inside (comes h) = comes-inside h
+  here-inside (knowing h e) = here-inside h
+
+  came : {k : Statements} {cell counter : ℕ}
+      → Here p word limit (leaves k) cell counter
+      → Comes p word limit (record { left = k; cell = cell; counter = counter })
+  came (comes h) = h
+
+  knew : {m : Role} {c : Condition} {sign : Bool} {cell counter : ℕ}
+      → Here p word limit (knows m c sign) cell counter
+      → Here p word limit m cell counter × (holds (symbolOn word cell) counter c ≡ sign)
+  knew (knowing h e) = (h, e)
+
+module _ (t : Table) (p : Program) (word : List ℕ) (limit : ℕ) (role : ℕ → Role) where
+  -- the program has come to what this state's role says
+  abbrev At : ℕ → ℕ → ℕ → Type 0
+  At s cell counter = Here p word limit (role s) cell counter
+
+  -- a row keeps this
+  record Sound (r : Row) : Type 0 where
+    keeping
+        : (s u : Situation)
+        → Takes t word r s u
+        → u .counter ≤ limit
+        → At (s .state) (s .cell) (s .counter)
+        → At (u .state) (u .cell) (u .counter)
+
+  row-sound
+      : (r : Row)
+      → ((cell counter counter′ : ℕ)
+        → symbolFits (t .alphabet) (r .symbol) (symbolOn word cell) ≡ true
+        → counterFits (r .test) counter ≡ true
+        → changed (t .stops) (r .change) counter ≡ some counter′
+        → counter′ ≤ limit
+        → At (r .from) cell counter
+        → At (r .to) (moved word (r .move) cell) counter′)
+      → Sound r
+  row-sound r f =
+      record {
+        keeping =
+            λ s u takes low h.
+            let fits = row-fits (takes .fits) in
+            rw (takes .state, takes .cell)
+            (f (s .cell) (s .counter) (u .counter) (fits .symbol) (fits .counter) (takes .counter) low (rw (← (fits .state)) at h));
+      }
+
+  -- a row that only tests
+  test-sound
+      : (code test a b : ℕ)
+      → ((cell counter : ℕ)
+        → symbolFits (t .alphabet) code (symbolOn word cell) ≡ true
+        → counterFits test counter ≡ true
+        → At a cell counter
+        → At b cell counter)
+      → Sound (testRow code test a b)
+  test-sound code test a b f =
+      row-sound (testRow code test a b)
+      (λ cell counter counter′ e g change low h.
+        let same : counter′ ≡ counter = Option·some-injective _ _ (sym change ∙ keeps (t .stops) counter) in
+        rw (stays word cell (here-inside h), same) (f cell counter e g h))
+
+  free-sound : (a b : ℕ) → ((cell counter : ℕ) → At a cell counter → At b cell counter) → Sound (free a b)
+  free-sound a b f = test-sound 18 2 a b (λ cell counter e g. f cell counter)
+
+  plain-sound
+      : (e : Plain) (a b : ℕ) (rest : Statements)
+      → PlainWithin e
+      → p .stops ≡ t .stops
+      → role a ≡ leaves (plain e then rest)
+      → role b ≡ leaves rest
+      → Sound (plainRow e a b)
+  plain-sound e a b rest within same left right =
+      row-sound (plainRow e a b)
+      (λ cell counter counter′ f g change low h.
+        let done : counterAfter (p .stops) e counter ≡ some counter′ = rw same (sym (plain-changes (t .stops) e counter within) ∙ change) in
+        rw (plain-moves word e cell within (here-inside h), right) (comes (goes (came (rw left at h)) (does done) low)))
+
+  -- where a statement may turn into others, a state that leaves the one leads to a state that leaves the others
+  turn
+      : {a : Statement} {rest k : Statements} (s u : ℕ)
+      → role s ≡ leaves (a then rest)
+      → role u ≡ leaves k
+      → (cell counter : ℕ)
+      → Turns (symbolOn word cell) counter a rest k
+      → At s cell counter
+      → At u cell counter
+  turn s u left right cell counter step h =
+      let here = came (rw left at h) in
+      rw right (comes (goes here (turns step) (comes-low here)))
+
+  -- two states with one role
+  stand : (s u : ℕ) → role s ≡ role u → (cell counter : ℕ) → At s cell counter → At u cell counter
+  stand s u same cell counter h = rw same at h
+
+  -- a walk's rows are sound, where this leads from what its start's role says to what its end's role says
+  record Walked (w : Walk) (roles : Role → List Role → List Role) (A : ℕ → ℕ → Type 0) : Type 0 where
+    walked
+        : (a b next : ℕ) (more : List Role)
+        → Given role next (roles (role a) more)
+        → ((cell counter : ℕ) → At a cell counter → A cell counter → At b cell counter)
+        → Every Sound (w a b next .rows) × Given role (w a b next .next) more
+
+  walked-where
+      : {w : Walk} {roles : Role → List Role → List Role} {A B : ℕ → ℕ → Type 0}
+      → ((cell counter : ℕ) → A cell counter → B cell counter)
+      → Walked w roles A
+      → Walked w roles B
+  walked-where f l =
+      record {
+        walked = λ a b next more given k. l .walked a b next more given (λ cell counter h e. k cell counter h (f cell counter e));
+      }
+
+  -- a condition has this truth value
+  abbrev Known : Condition → Bool → ℕ → ℕ → Type 0
+  Known c sign cell counter = holds (symbolOn word cell) counter c ≡ sign
+
+  after-walked
+      : {a b : Walk} {ra rb : Role → List Role → List Role} {c : Condition} {sign : Bool} {B : ℕ → ℕ → Type 0}
+      → Walked a ra (Known c sign)
+      → Walked b rb B
+      → Walked
+      (oneAfterOther a b)
+      (λ m more. knows m c sign ∷ ra m (rb (knows m c sign) more))
+      (λ cell counter. Known c sign cell counter × B cell counter)
+  unfolding oneAfterOther
+  after-walked {a} f g =
+      record {
+        walked =
+            λ s u next more given k.
+            let middle = given .0 in
+            let first = f .walked s next (suc next) _ (given .1) (λ cell counter h e. rw middle (knowing h e)) in
+            let second =
+                g .walked next u (a s next (suc next) .next) more (rw middle (first .1))
+                (λ cell counter h e.
+                  let both = knew (rw middle at h) in
+                  k cell counter (both .0) (both .1, e)) in
+            (every-append _ (first .0) (second .0), second .1);
+      }
+
+  or-walked
+      : {a b : Walk} {ra rb : Role → List Role → List Role} {A B : ℕ → ℕ → Type 0}
+      → Walked a ra A
+      → Walked b rb B
+      → Walked (oneOrOther a b) (λ m more. ra m (rb m more)) (λ cell counter. A cell counter ⊎ B cell counter)
+  unfolding oneOrOther
+  or-walked f g =
+      record {
+        walked =
+            λ s u next more given k.
+            let first = f .walked s u next _ given (λ cell counter h e. k cell counter h (inl e)) in
+            let second = g .walked s u _ more (first .1) (λ cell counter h e. k cell counter h (inr e)) in
+            (every-append _ (first .0) (second .0), second .1);
+      }
+
+  module _ (few : length (t .alphabet) ≤ 16) (different : List·Nodup (t .alphabet)) (letters : (cell : ℕ) → SymbolWithin (t .alphabet) (symbolOn word cell)) where
+    -- a condition's rows are sound, where it has the truth value of its sign
+    walk-sound
+        : (c : Condition) (sign : Bool)
+        → ConditionWithin (t .alphabet) c
+        → Walked (walk (t .alphabet) c sign) (walkRoles c sign) (Known c sign)
+    unfolding walk walkRoles holds ConditionWithin
+    walk-sound (atom a) sign within =
+        record {
+          walked =
+              λ s u next more given k. (
+                record {
+                  at =
+                      λ r m.
+                      let this = atom-tests (t .alphabet) sign a s u r m in
+                      rw this (
+                        test-sound (r .symbol) (r .test) s u
+                        (λ cell counter e f h.
+                          k cell counter h
+                          (atom-passes (t .alphabet) few different (symbolOn word cell) counter s u (letters cell) a sign within .1
+                          (record { code = r .symbol; test = r .test; listed = Memᴰ·cast (sym this) m; onSymbol = e; onCounter = f })))
+                      );
+                },
+                given,
+              );
+        }
+    walk-sound (parens o c) sign within = walk-sound c sign within
+    walk-sound (negation o c) sign within = walked-where (λ cell counter. turned _ sign .1) (walk-sound c (not sign) within)
+    walk-sound (both c d) true within =
+        walked-where (λ cell counter. both-true _ _ .1) (after-walked (walk-sound c true (within .0)) (walk-sound d true (within .1)))
+    walk-sound (both c d) false within =
+        walked-where (λ cell counter. one-false _ _ .1) (or-walked (walk-sound c false (within .0)) (walk-sound d false (within .1)))
+    walk-sound (either c d) true within =
+        walked-where (λ cell counter. one-true _ _ .1) (or-walked (walk-sound c true (within .0)) (walk-sound d true (within .1)))
+    walk-sound (either c d) false within =
+        walked-where (λ cell counter. both-false _ _ .1) (after-walked (walk-sound c false (within .0)) (walk-sound d false (within .1)))
