@@ -83,28 +83,35 @@ unfoldable mutual
   armsRoles (moreArms t o b a) rest more = leaves (b before rest) ∷ statementsRoles b rest (armsRoles a rest more)
 
 -- the states from n on have these roles
-abbrev pub Given : (ℕ → Role) → ℕ → List Role → Type 0
-Given role n [] = Unit
-Given role n (m ∷ ms) = (role n ≡ m) × Given role (suc n) ms
+pub data Given (role : ℕ → Role) : ℕ → List Role → Type 0 where
+  none : {n : ℕ} → Given role n []
+  one : {n : ℕ} {m : Role} {ms : List Role} → role n ≡ m → Given role (suc n) ms → Given role n (m ∷ ms)
+
+module _ {role : ℕ → Role} {n : ℕ} where
+  pub given-first : {m : Role} {ms : List Role} → Given role n (m ∷ ms) → role n ≡ m
+  given-first (one e g) = e
+
+  pub given-rest : {m : Role} {ms : List Role} → Given role n (m ∷ ms) → Given role (suc n) ms
+  given-rest (one e g) = g
+
+  -- with numerals, as the construction writes them
+  pub given-second : {a b : Role} {ms : List Role} → Given role n (a ∷ b ∷ ms) → role (n + 1) ≡ b
+  given-second (one e (one f g)) = rw add-one f
+
+  pub given-third : {a b c : Role} {ms : List Role} → Given role n (a ∷ b ∷ c ∷ ms) → role (n + 2) ≡ c
+  given-third (one e (one f (one h g))) = rw add-two h
+
+  pub given-rest-two : {a b : Role} {ms : List Role} → Given role n (a ∷ b ∷ ms) → Given role (n + 2) ms
+  given-rest-two (one e (one f g)) = rw add-two g
+
+  pub given-rest-three : {a b c : Role} {ms : List Role} → Given role n (a ∷ b ∷ c ∷ ms) → Given role (n + 3) ms
+  given-rest-three (one e (one f (one h g))) = rw add-three g
 
 -- a list gives the states from 0 on its roles
-given-shift : (role : ℕ → Role) (n : ℕ) (ms : List Role) → Given (λ s. role (suc s)) n ms → Given role (suc n) ms
-given-shift role n [] g = tt
-given-shift role n (m ∷ ms) g = (g .0, given-shift role (suc n) ms (g .1))
+given-shift : (role : ℕ → Role) {n : ℕ} {ms : List Role} → Given (λ s. role (suc s)) n ms → Given role (suc n) ms
+given-shift role none = none
+given-shift role (one e g) = one e (given-shift role g)
 
 pub given-all : (ms : List Role) (other : Role) → Given (λ s. getD ms s other) 0 ms
-given-all [] other = tt
-given-all (m ∷ ms) other = (refl, given-shift (λ s. getD (m ∷ ms) s other) 0 ms (given-all ms other))
-
--- with numerals, as the construction writes them
-pub given-two
-    : (role : ℕ → Role) (n : ℕ) (a b : Role) (ms : List Role)
-    → Given role n (a ∷ b ∷ ms)
-    → (role n ≡ a) × (role (n + 1) ≡ b) × Given role (n + 2) ms
-given-two role n a b ms g = (g .0, rw add-one (g .1 .0), rw add-two (g .1 .1))
-
-pub given-three
-    : (role : ℕ → Role) (n : ℕ) (a b c : Role) (ms : List Role)
-    → Given role n (a ∷ b ∷ c ∷ ms)
-    → (role n ≡ a) × (role (n + 1) ≡ b) × (role (n + 2) ≡ c) × Given role (n + 3) ms
-given-three role n a b c ms g = (g .0, rw add-one (g .1 .0), rw add-two (g .1 .1 .0), rw add-three (g .1 .1 .1))
+given-all [] other = none
+given-all (m ∷ ms) other = one refl (given-shift (λ s. getD (m ∷ ms) s other) (given-all ms other))

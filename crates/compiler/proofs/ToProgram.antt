@@ -98,8 +98,12 @@ use Rattle.compiler.proofs.Roles.{
   statementsRoles,
   armsRoles,
   Given,
-  given-two,
-  given-three,
+  given-first,
+  given-rest,
+  given-second,
+  given-third,
+  given-rest-two,
+  given-rest-three,
 }
 
 -- the program has come to what a role says, on this cell with this counter
@@ -208,13 +212,25 @@ module _ (t : Table) (p : Program) (word : List ℕ) (limit : ℕ) (role : ℕ �
   stand : (s u : ℕ) → role s ≡ role u → (cell counter : ℕ) → At s cell counter → At u cell counter
   stand s u same cell counter h = rw same at h
 
+  -- what a test adds is sound, and the states after it have these roles
+  record Tested (added : Added) (more : List Role) : Type 0 where
+    rows : Every Sound (added .rows)
+    given : Given role (added .next) more
+
+  tested-append
+      : {a b : Added} {more more′ : List Role}
+      → Tested a more′
+      → Tested b more
+      → Tested (record { rows = a .rows ++ b .rows; next = b .next }) more
+  tested-append f g = record { rows = every-append _ (f .rows) (g .rows); given = g .given }
+
   -- a walk's rows are sound, where this leads from what its start's role says to what its end's role says
   record Walked (w : Walk) (roles : Role → List Role → List Role) (A : ℕ → ℕ → Type 0) : Type 0 where
     walked
         : (a b next : ℕ) (more : List Role)
         → Given role next (roles (role a) more)
         → ((cell counter : ℕ) → At a cell counter → A cell counter → At b cell counter)
-        → Every Sound (w a b next .rows) × Given role (w a b next .next) more
+        → Tested (w a b next) more
 
   walked-where
       : {w : Walk} {roles : Role → List Role → List Role} {A B : ℕ → ℕ → Type 0}
@@ -243,14 +259,14 @@ module _ (t : Table) (p : Program) (word : List ℕ) (limit : ℕ) (role : ℕ �
       record {
         walked =
             λ s u next more given k.
-            let middle = given .0 in
-            let first = f .walked s next (suc next) _ (given .1) (λ cell counter h e. rw middle (knowing h e)) in
+            let middle = given-first given in
+            let first = f .walked s next (suc next) _ (given-rest given) (λ cell counter h e. rw middle (knowing h e)) in
             let second =
-                g .walked next u (a s next (suc next) .next) more (rw middle (first .1))
+                g .walked next u (a s next (suc next) .next) more (rw middle (first .given))
                 (λ cell counter h e.
-                  let both = knew (rw middle at h) in
-                  k cell counter (both .0) (both .1, e)) in
-            (every-append _ (first .0) (second .0), second .1);
+                  let held = knew (rw middle at h) in
+                  k cell counter (held .0) (held .1, e)) in
+            tested-append first second;
       }
 
   or-walked
@@ -264,8 +280,96 @@ module _ (t : Table) (p : Program) (word : List ℕ) (limit : ℕ) (role : ℕ �
         walked =
             λ s u next more given k.
             let first = f .walked s u next _ given (λ cell counter h e. k cell counter h (inl e)) in
-            let second = g .walked s u _ more (first .1) (λ cell counter h e. k cell counter h (inr e)) in
-            (every-append _ (first .0) (second .0), second .1);
+            let second = g .walked s u _ more (first .given) (λ cell counter h e. k cell counter h (inr e)) in
+            tested-append first second;
+      }
+
+  -- this state's role is an `accept` in front
+  record Accepts (s : ℕ) : Type 0 where
+    rest : Statements
+    leaving : role s ≡ leaves (accept then rest)
+
+  -- a part's rows are sound, it accepts only where an `accept` is in front, and its exit leaves these statements
+  record Right (part : Part) (k : Statements) (more : List Role) : Type 0 where
+    rows : Every Sound (part .rows)
+    accepting : Every Accepts (part .accepting)
+    exit : role (part .exit) ≡ leaves k
+    given : Given role (part .next) more
+
+  -- no rows
+  empty-right
+      : {s next : ℕ} {k : Statements} {more : List Role}
+      → role s ≡ leaves k
+      → Given role next more
+      → Right (record { rows = []; accepting = []; exit = s; next = next }) k more
+  empty-right left given = record { rows = every-nil; accepting = every-nil; exit = left; given = given }
+
+  -- a free row from a part's exit to a state that leaves the same
+  out-sound : {part : Part} {k : Statements} {more : List Role} (q : ℕ) → Right part k more → role q ≡ leaves k → Sound (free (part .exit) q)
+  out-sound {part} q f right = free-sound (part .exit) q (stand (part .exit) q (f .exit ∙ sym right))
+
+  if-right
+      : {tests : Added} {yesPart noPart : Part} {k : Statements} {more more′ more″ : List Role} (q : ℕ)
+      → Tested tests more″
+      → Right yesPart k more′
+      → Right noPart k more
+      → role q ≡ leaves k
+      → Right (ifPart tests yesPart noPart q) k more
+  unfolding ifPart
+  if-right q f g h right =
+      record {
+        rows =
+            every-append _ (f .rows)
+            (every-append _ (g .rows)
+            (every-cons (out-sound q g right) (every-append _ (h .rows) (every-cons (out-sound q h right) every-nil))));
+        accepting = every-append _ (g .accepting) (h .accepting);
+        exit = right;
+        given = h .given;
+      }
+
+  loop-right
+      : {first : List Row} {body : Part} {k rest : Statements} {more : List Role} (s q : ℕ)
+      → Every Sound first
+      → Right body k more
+      → role s ≡ leaves k
+      → role q ≡ leaves rest
+      → Right (loopPart first body s q) rest more
+  unfolding loopPart
+  loop-right s q f g left right =
+      record {
+        rows = every-append _ f (every-append _ (g .rows) (every-cons (out-sound s g left) every-nil));
+        accepting = g .accepting;
+        exit = right;
+        given = g .given;
+      }
+
+  arm-right
+      : {body : Part} {rest : Statements} {more : List Role} (s a q : ℕ)
+      → ((cell counter : ℕ) → At s cell counter → At a cell counter)
+      → Right body rest more
+      → role q ≡ leaves rest
+      → Right (armPart body s a q) rest more
+  unfolding armPart
+  arm-right s a q f g right =
+      record {
+        rows = every-cons (free-sound s a f) (every-append _ (g .rows) (every-cons (out-sound q g right) every-nil));
+        accepting = g .accepting;
+        exit = right;
+        given = g .given;
+      }
+
+  then-right
+      : {a b : Part} {k rest : Statements} {more more′ : List Role}
+      → Right a k more′
+      → Right b rest more
+      → Right (andThen a b) rest more
+  unfolding andThen
+  then-right f g =
+      record {
+        rows = every-append _ (f .rows) (g .rows);
+        accepting = every-append _ (f .accepting) (g .accepting);
+        exit = g .exit;
+        given = g .given;
       }
 
   module _ (few : length (t .alphabet) ≤ 16) (different : List·Nodup (t .alphabet)) (letters : (cell : ℕ) → SymbolWithin (t .alphabet) (symbolOn word cell)) where
@@ -278,21 +382,23 @@ module _ (t : Table) (p : Program) (word : List ℕ) (limit : ℕ) (role : ℕ �
     walk-sound (atom a) sign within =
         record {
           walked =
-              λ s u next more given k. (
-                record {
-                  at =
-                      λ r m.
-                      let this = atom-tests (t .alphabet) sign a s u r m in
-                      rw this (
-                        test-sound (r .symbol) (r .test) s u
-                        (λ cell counter e f h.
-                          k cell counter h
-                          (atom-passes (t .alphabet) few different (symbolOn word cell) counter s u (letters cell) a sign within .1
-                          (record { code = r .symbol; test = r .test; listed = Memᴰ·cast (sym this) m; onSymbol = e; onCounter = f })))
-                      );
-                },
-                given,
-              );
+              λ s u next more given k.
+              record {
+                rows =
+                    record {
+                      at =
+                          λ r m.
+                          let this = atom-tests (t .alphabet) sign a s u r m in
+                          rw this (
+                            test-sound (r .symbol) (r .test) s u
+                            (λ cell counter e f h.
+                              k cell counter h
+                              (atom-passes (t .alphabet) few different (symbolOn word cell) counter s u (letters cell) a sign within .1
+                              (record { code = r .symbol; test = r .test; listed = Memᴰ·cast (sym this) m; onSymbol = e; onCounter = f })))
+                          );
+                    };
+                given = given;
+              };
         }
     walk-sound (parens o c) sign within = walk-sound c sign within
     walk-sound (negation o c) sign within = walked-where (λ cell counter. turned _ sign .1) (walk-sound c (not sign) within)
@@ -304,3 +410,111 @@ module _ (t : Table) (p : Program) (word : List ℕ) (limit : ℕ) (role : ℕ �
         walked-where (λ cell counter. one-true _ _ .1) (or-walked (walk-sound c true (within .0)) (walk-sound d true (within .1)))
     walk-sound (either c d) false within =
         walked-where (λ cell counter. both-false _ _ .1) (after-walked (walk-sound c false (within .0)) (walk-sound d false (within .1)))
+
+    -- both tests of a condition
+    tests-sound
+        : (c : Condition) (s x y next : ℕ) {m : Role} (more : List Role)
+        → ConditionWithin (t .alphabet) c
+        → role s ≡ m
+        → Given role next (testRoles c m more)
+        → ((cell counter : ℕ) → Known c true cell counter → At s cell counter → At x cell counter)
+        → ((cell counter : ℕ) → Known c false cell counter → At s cell counter → At y cell counter)
+        → Tested (test (t .alphabet) c s x y next) more
+    unfolding test testRoles
+    tests-sound c s x y next more within left given f g =
+        let holding =
+            walk-sound c true within .walked s x next (walkRoles c false (role s) more) (rw left given)
+            (λ cell counter h e. f cell counter e h) in
+        let failing =
+            walk-sound c false within .walked s y (walk (t .alphabet) c true s x next .next) more (holding .given)
+            (λ cell counter h e. g cell counter e h) in
+        tested-append holding failing
+
+    module _ (same : p .stops ≡ t .stops) where
+      mutual
+        unfolding statementPart statementsPart armsPart statementRoles statementsRoles armsRoles StatementWithin StatementsWithin ArmsWithin _before_
+
+        -- every row of every part is sound
+        statement-right
+            : (a : Statement) (s next : ℕ) (rest : Statements) (more : List Role)
+            → StatementWithin (t .alphabet) a
+            → role s ≡ leaves (a then rest)
+            → Given role next (statementRoles a rest more)
+            → Right (statementPart (t .alphabet) a s next) rest more
+        statement-right (plain e) s next rest more within left given =
+            record {
+              rows = every-cons (plain-sound e s next rest within same left (given-first given)) every-nil;
+              accepting = every-nil;
+              exit = given-first given;
+              given = given-rest given;
+            }
+        statement-right accept s next rest more within left given =
+            record {
+              rows = every-nil;
+              accepting = every-cons (record { rest = rest; leaving = left }) every-nil;
+              exit = given-first given;
+              given = given-rest given;
+            }
+        statement-right reject s next rest more within left given = empty-right (given-first given) (given-rest given)
+        statement-right (if c o b) s next rest more within left given =
+            let tests =
+                tests-sound c s (next + 1) (next + 2) (next + 3) _ (within .0) left (given-rest-three given)
+                (λ cell counter e. turn s (next + 1) left (given-second given) cell counter (ifHolds e))
+                (λ cell counter e. turn s (next + 2) left (given-third given) cell counter (ifFails e)) in
+            let yesPart = statements-right b (next + 1) _ rest more (within .1) (given-second given) (tests .given) in
+            if-right next tests yesPart (empty-right (given-third given) (yesPart .given)) (given-first given)
+        statement-right (ifElse c o b o′ b′) s next rest more within left given =
+            let tests =
+                tests-sound c s (next + 1) (next + 2) (next + 3) _ (within .0) left (given-rest-three given)
+                (λ cell counter e. turn s (next + 1) left (given-second given) cell counter (elseHolds e))
+                (λ cell counter e. turn s (next + 2) left (given-third given) cell counter (elseFails e)) in
+            let yesPart = statements-right b (next + 1) _ rest _ (within .1) (given-second given) (tests .given) in
+            if-right next tests yesPart (statements-right b′ (next + 2) _ rest more (within .2) (given-third given) (yesPart .given)) (given-first given)
+        statement-right (while c o b) s next rest more within left given =
+            let tests =
+                tests-sound c s (next + 1) next (next + 2) _ (within .0) left (given-rest-two given)
+                (λ cell counter e. turn s (next + 1) left (given-second given) cell counter (whileHolds e))
+                (λ cell counter e. turn s next left (given-first given) cell counter (whileFails e)) in
+            loop-right s next (tests .rows) (statements-right b (next + 1) _ _ more (within .1) (given-second given) (tests .given)) left (given-first given)
+        statement-right (choose o b) s next rest more within left given =
+            loop-right s next
+            (every-cons
+            (free-sound s (next + 1) (λ cell counter. turn s (next + 1) left (given-second given) cell counter goesRound))
+            (every-cons (free-sound s next (λ cell counter. turn s next left (given-first given) cell counter stops)) every-nil))
+            (statements-right b (next + 1) (next + 2) _ more within (given-second given) (given-rest-two given))
+            left
+            (given-first given)
+        statement-right (branch o b a) s next rest more within left given =
+            let first =
+                arm-right s (next + 1) next (λ cell counter. turn s (next + 1) left (given-second given) cell counter firstArm)
+                (statements-right b (next + 1) (next + 2) rest _ (within .0) (given-second given) (given-rest-two given)) (given-first given) in
+            then-right first
+            (arms-right a s next _ rest more (within .1) (λ c m u right cell counter. turn s u left right cell counter (otherArm m)) (given-first given) (first .given))
+
+        statements-right
+            : (b : Statements) (s next : ℕ) (k : Statements) (more : List Role)
+            → StatementsWithin (t .alphabet) b
+            → role s ≡ leaves (b before k)
+            → Given role next (statementsRoles b k more)
+            → Right (statementsPart (t .alphabet) b s next) k more
+        statements-right done s next k more within left given = empty-right left given
+        statements-right (a then b) s next k more within left given =
+            let first = statement-right a s next (b before k) _ (within .0) left given in
+            then-right first (statements-right b _ _ k more (within .1) (first .exit) (first .given))
+
+        arms-right
+            : (a : Arms) (s q next : ℕ) (rest : Statements) (more : List Role)
+            → ArmsWithin (t .alphabet) a
+            → ((b : Statements) → Arm b a → (u : ℕ) → role u ≡ leaves (b before rest) → (cell counter : ℕ) → At s cell counter → At u cell counter)
+            → role q ≡ leaves rest
+            → Given role next (armsRoles a rest more)
+            → Right (armsPart (t .alphabet) a s q next) rest more
+        arms-right (lastArm o o′ b) s q next rest more within enter right given =
+            arm-right s next q (enter b lastOne next (given-first given))
+            (statements-right b next (suc next) rest more within (given-first given) (given-rest given)) right
+        arms-right (moreArms o o′ b a) s q next rest more within enter right given =
+            let first =
+                arm-right s next q (enter b thisOne next (given-first given))
+                (statements-right b next (suc next) rest _ (within .0) (given-first given) (given-rest given)) right in
+            then-right first
+            (arms-right a s q _ rest more (within .1) (λ c m. enter c (another m)) right (first .given))
