@@ -160,8 +160,8 @@ passing-counter
 passing-counter {symbol = symbol} {counter} test = (
   λ e. record { code = anySymbol; test = test; listed = List·Memᴰ·head refl; onSymbol = any-fits _ symbol; onCounter = e },
   λ r.
-    let here = ap (λ (s : Row). s .test) (List·Memᴰ·eq-of-singleton (r .listed)) in
-    rw here at (r .onCounter),
+      let here = ap (λ (s : Row). s .test) (List·Memᴰ·eq-of-singleton (r .listed)) in
+      rw here at (r .onCounter),
 )
 
 module _ {alphabet : List ℕ} {symbol : Symbol} {counter p q : ℕ} where
@@ -272,8 +272,8 @@ module _ (alphabet : List ℕ) (few : length alphabet ≤ 16) where
           let same = reads-code x symbol m within in (
             λ e. passing-symbol _ (List·Memᴰ·head (sym (eqb-true _ _ (sym same ∙ e)))) (code-fits symbol within),
             λ r.
-              let here = List·Memᴰ·eq-of-singleton (listed-symbol _ _ p q (r .listed)) in
-              same ∙ eq-eqb _ _ (code-only _ symbol (code-mem alphabet x m) (rw here at (r .onSymbol))),
+                let here = List·Memᴰ·eq-of-singleton (listed-symbol _ _ p q (r .listed)) in
+                same ∙ eq-eqb _ _ (code-only _ symbol (code-mem alphabet x m) (rw here at (r .onSymbol))),
           )
 
       -- `!=` passes where it is not
@@ -284,12 +284,12 @@ module _ (alphabet : List ℕ) (few : length alphabet ≤ 16) where
       is-not-passes x m =
           let same = reads-code x symbol m within in (
             λ e.
-              passing-symbol _
-              (mem-without _ _ _ (λ q. eqb-false _ _ (sym same ∙ e) (sym q)) (code-listed symbol within))
-              (code-fits symbol within),
+                passing-symbol _
+                (mem-without _ _ _ (λ q. eqb-false _ _ (sym same ∙ e) (sym q)) (code-listed symbol within))
+                (code-fits symbol within),
             λ r.
-              let other = without-mem _ _ _ (listed-symbol _ _ p q (r .listed)) in
-              same ∙ ne-eqb _ _ (λ q. other .0 (code-only _ symbol (other .1) (r .onSymbol) ∙ sym q)),
+                let other = without-mem _ _ _ (listed-symbol _ _ p q (r .listed)) in
+                same ∙ ne-eqb _ _ (λ q. other .0 (code-only _ symbol (other .1) (r .onSymbol) ∙ sym q)),
           )
 
       -- an atom's rows pass exactly where it has the truth value of its sign

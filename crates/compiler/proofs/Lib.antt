@@ -11,3 +11,4 @@ pub mod Plain
 pub mod ToTable
 pub mod Roles
 pub mod ToProgram
+pub mod Agree

@@ -28,6 +28,7 @@ use Rattle.rule.specs.Tree.{
   Arms,
   lastArm,
   moreArms,
+  Program,
 }
 use Rattle.rule.specs.Meaning.{_before_}
 
@@ -115,3 +116,14 @@ given-shift role (one e g) = one e (given-shift role g)
 pub given-all : (ms : List Role) (other : Role) → Given (λ s. getD ms s other) 0 ms
 given-all [] other = none
 given-all (m ∷ ms) other = one refl (given-shift (λ s. getD (m ∷ ms) s other) (given-all ms other))
+
+-- the role of each state of a program's table
+unfoldable pub programRoles : Program → List Role
+programRoles p = leaves (p .body before done) ∷ statementsRoles (p .body) done []
+
+unfoldable pub roleOf : Program → ℕ → Role
+roleOf p s = getD (programRoles p) s (leaves done)
+
+pub role-given : (p : Program) → Given (roleOf p) 0 (programRoles p)
+unfolding roleOf
+role-given p = given-all (programRoles p) (leaves done)

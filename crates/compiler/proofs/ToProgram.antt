@@ -121,7 +121,7 @@ module _ {p : Program} {word : List ℕ} {limit : ℕ} where
   here-inside (comes h) = comes-inside h
   here-inside (knowing h e) = here-inside h
 
-  came : {k : Statements} {cell counter : ℕ}
+  pub came : {k : Statements} {cell counter : ℕ}
       → Here p word limit (leaves k) cell counter
       → Comes p word limit (record { left = k; cell = cell; counter = counter })
   came (comes h) = h
@@ -133,12 +133,12 @@ module _ {p : Program} {word : List ℕ} {limit : ℕ} where
 
 module _ (t : Table) (p : Program) (word : List ℕ) (limit : ℕ) (role : ℕ → Role) where
   -- the program has come to what this state's role says
-  abbrev At : ℕ → ℕ → ℕ → Type 0
+  abbrev pub At : ℕ → ℕ → ℕ → Type 0
   At s cell counter = Here p word limit (role s) cell counter
 
   -- a row keeps this
-  record Sound (r : Row) : Type 0 where
-    keeping
+  pub record Sound (r : Row) : Type 0 where
+    pub keeping
         : (s u : Situation)
         → Takes t word r s u
         → u .counter ≤ limit
@@ -148,12 +148,12 @@ module _ (t : Table) (p : Program) (word : List ℕ) (limit : ℕ) (role : ℕ �
   row-sound
       : (r : Row)
       → ((cell counter counter′ : ℕ)
-        → symbolFits (t .alphabet) (r .symbol) (symbolOn word cell) ≡ true
-        → counterFits (r .test) counter ≡ true
-        → changed (t .stops) (r .change) counter ≡ some counter′
-        → counter′ ≤ limit
-        → At (r .from) cell counter
-        → At (r .to) (moved word (r .move) cell) counter′)
+      → symbolFits (t .alphabet) (r .symbol) (symbolOn word cell) ≡ true
+      → counterFits (r .test) counter ≡ true
+      → changed (t .stops) (r .change) counter ≡ some counter′
+      → counter′ ≤ limit
+      → At (r .from) cell counter
+      → At (r .to) (moved word (r .move) cell) counter′)
       → Sound r
   row-sound r f =
       record {
@@ -168,16 +168,16 @@ module _ (t : Table) (p : Program) (word : List ℕ) (limit : ℕ) (role : ℕ �
   test-sound
       : (code test a b : ℕ)
       → ((cell counter : ℕ)
-        → symbolFits (t .alphabet) code (symbolOn word cell) ≡ true
-        → counterFits test counter ≡ true
-        → At a cell counter
-        → At b cell counter)
+      → symbolFits (t .alphabet) code (symbolOn word cell) ≡ true
+      → counterFits test counter ≡ true
+      → At a cell counter
+      → At b cell counter)
       → Sound (testRow code test a b)
   test-sound code test a b f =
       row-sound (testRow code test a b)
       (λ cell counter counter′ e g change low h.
-        let same : counter′ ≡ counter = Option·some-injective _ _ (sym change ∙ keeps (t .stops) counter) in
-        rw (stays word cell (here-inside h), same) (f cell counter e g h))
+      let same : counter′ ≡ counter = Option·some-injective _ _ (sym change ∙ keeps (t .stops) counter) in
+      rw (stays word cell (here-inside h), same) (f cell counter e g h))
 
   free-sound : (a b : ℕ) → ((cell counter : ℕ) → At a cell counter → At b cell counter) → Sound (free a b)
   free-sound a b f = test-sound 18 2 a b (λ cell counter e g. f cell counter)
@@ -192,8 +192,8 @@ module _ (t : Table) (p : Program) (word : List ℕ) (limit : ℕ) (role : ℕ �
   plain-sound e a b rest within same left right =
       row-sound (plainRow e a b)
       (λ cell counter counter′ f g change low h.
-        let done : counterAfter (p .stops) e counter ≡ some counter′ = rw same (sym (plain-changes (t .stops) e counter within) ∙ change) in
-        rw (plain-moves word e cell within (here-inside h), right) (comes (goes (came (rw left at h)) (does done) low)))
+      let done : counterAfter (p .stops) e counter ≡ some counter′ = rw same (sym (plain-changes (t .stops) e counter within) ∙ change) in
+      rw (plain-moves word e cell within (here-inside h), right) (comes (goes (came (rw left at h)) (does done) low)))
 
   -- where a statement may turn into others, a state that leaves the one leads to a state that leaves the others
   turn
@@ -262,10 +262,10 @@ module _ (t : Table) (p : Program) (word : List ℕ) (limit : ℕ) (role : ℕ �
             let middle = given-first given in
             let first = f .walked s next (suc next) _ (given-rest given) (λ cell counter h e. rw middle (knowing h e)) in
             let second =
-                g .walked next u (a s next (suc next) .next) more (rw middle (first .given))
-                (λ cell counter h e.
-                  let held = knew (rw middle at h) in
-                  k cell counter (held .0) (held .1, e)) in
+            g .walked next u (a s next (suc next) .next) more (rw middle (first .given))
+            (λ cell counter h e.
+            let held = knew (rw middle at h) in
+            k cell counter (held .0) (held .1, e)) in
             tested-append first second;
       }
 
@@ -285,16 +285,16 @@ module _ (t : Table) (p : Program) (word : List ℕ) (limit : ℕ) (role : ℕ �
       }
 
   -- this state's role is an `accept` in front
-  record Accepts (s : ℕ) : Type 0 where
-    rest : Statements
-    leaving : role s ≡ leaves (accept then rest)
+  pub record Accepts (s : ℕ) : Type 0 where
+    pub rest : Statements
+    pub leaving : role s ≡ leaves (accept then rest)
 
   -- a part's rows are sound, it accepts only where an `accept` is in front, and its exit leaves these statements
-  record Right (part : Part) (k : Statements) (more : List Role) : Type 0 where
-    rows : Every Sound (part .rows)
-    accepting : Every Accepts (part .accepting)
-    exit : role (part .exit) ≡ leaves k
-    given : Given role (part .next) more
+  pub record Right (part : Part) (k : Statements) (more : List Role) : Type 0 where
+    pub rows : Every Sound (part .rows)
+    pub accepting : Every Accepts (part .accepting)
+    pub exit : role (part .exit) ≡ leaves k
+    pub given : Given role (part .next) more
 
   -- no rows
   empty-right
@@ -390,11 +390,11 @@ module _ (t : Table) (p : Program) (word : List ℕ) (limit : ℕ) (role : ℕ �
                           λ r m.
                           let this = atom-tests (t .alphabet) sign a s u r m in
                           rw this (
-                            test-sound (r .symbol) (r .test) s u
-                            (λ cell counter e f h.
-                              k cell counter h
-                              (atom-passes (t .alphabet) few different (symbolOn word cell) counter s u (letters cell) a sign within .1
-                              (record { code = r .symbol; test = r .test; listed = Memᴰ·cast (sym this) m; onSymbol = e; onCounter = f })))
+                          test-sound (r .symbol) (r .test) s u
+                          (λ cell counter e f h.
+                          k cell counter h
+                          (atom-passes (t .alphabet) few different (symbolOn word cell) counter s u (letters cell) a sign within .1
+                          (record { code = r .symbol; test = r .test; listed = Memᴰ·cast (sym this) m; onSymbol = e; onCounter = f })))
                           );
                     };
                 given = given;
@@ -423,11 +423,11 @@ module _ (t : Table) (p : Program) (word : List ℕ) (limit : ℕ) (role : ℕ �
     unfolding test testRoles
     tests-sound c s x y next more within left given f g =
         let holding =
-            walk-sound c true within .walked s x next (walkRoles c false (role s) more) (rw left given)
-            (λ cell counter h e. f cell counter e h) in
+        walk-sound c true within .walked s x next (walkRoles c false (role s) more) (rw left given)
+        (λ cell counter h e. f cell counter e h) in
         let failing =
-            walk-sound c false within .walked s y (walk (t .alphabet) c true s x next .next) more (holding .given)
-            (λ cell counter h e. g cell counter e h) in
+        walk-sound c false within .walked s y (walk (t .alphabet) c true s x next .next) more (holding .given)
+        (λ cell counter h e. g cell counter e h) in
         tested-append holding failing
 
     module _ (same : p .stops ≡ t .stops) where
@@ -458,23 +458,23 @@ module _ (t : Table) (p : Program) (word : List ℕ) (limit : ℕ) (role : ℕ �
         statement-right reject s next rest more within left given = empty-right (given-first given) (given-rest given)
         statement-right (if c o b) s next rest more within left given =
             let tests =
-                tests-sound c s (next + 1) (next + 2) (next + 3) _ (within .0) left (given-rest-three given)
-                (λ cell counter e. turn s (next + 1) left (given-second given) cell counter (ifHolds e))
-                (λ cell counter e. turn s (next + 2) left (given-third given) cell counter (ifFails e)) in
+            tests-sound c s (next + 1) (next + 2) (next + 3) _ (within .0) left (given-rest-three given)
+            (λ cell counter e. turn s (next + 1) left (given-second given) cell counter (ifHolds e))
+            (λ cell counter e. turn s (next + 2) left (given-third given) cell counter (ifFails e)) in
             let yesPart = statements-right b (next + 1) _ rest more (within .1) (given-second given) (tests .given) in
             if-right next tests yesPart (empty-right (given-third given) (yesPart .given)) (given-first given)
         statement-right (ifElse c o b o′ b′) s next rest more within left given =
             let tests =
-                tests-sound c s (next + 1) (next + 2) (next + 3) _ (within .0) left (given-rest-three given)
-                (λ cell counter e. turn s (next + 1) left (given-second given) cell counter (elseHolds e))
-                (λ cell counter e. turn s (next + 2) left (given-third given) cell counter (elseFails e)) in
+            tests-sound c s (next + 1) (next + 2) (next + 3) _ (within .0) left (given-rest-three given)
+            (λ cell counter e. turn s (next + 1) left (given-second given) cell counter (elseHolds e))
+            (λ cell counter e. turn s (next + 2) left (given-third given) cell counter (elseFails e)) in
             let yesPart = statements-right b (next + 1) _ rest _ (within .1) (given-second given) (tests .given) in
             if-right next tests yesPart (statements-right b′ (next + 2) _ rest more (within .2) (given-third given) (yesPart .given)) (given-first given)
         statement-right (while c o b) s next rest more within left given =
             let tests =
-                tests-sound c s (next + 1) next (next + 2) _ (within .0) left (given-rest-two given)
-                (λ cell counter e. turn s (next + 1) left (given-second given) cell counter (whileHolds e))
-                (λ cell counter e. turn s next left (given-first given) cell counter (whileFails e)) in
+            tests-sound c s (next + 1) next (next + 2) _ (within .0) left (given-rest-two given)
+            (λ cell counter e. turn s (next + 1) left (given-second given) cell counter (whileHolds e))
+            (λ cell counter e. turn s next left (given-first given) cell counter (whileFails e)) in
             loop-right s next (tests .rows) (statements-right b (next + 1) _ _ more (within .1) (given-second given) (tests .given)) left (given-first given)
         statement-right (choose o b) s next rest more within left given =
             loop-right s next
@@ -486,12 +486,12 @@ module _ (t : Table) (p : Program) (word : List ℕ) (limit : ℕ) (role : ℕ �
             (given-first given)
         statement-right (branch o b a) s next rest more within left given =
             let first =
-                arm-right s (next + 1) next (λ cell counter. turn s (next + 1) left (given-second given) cell counter firstArm)
-                (statements-right b (next + 1) (next + 2) rest _ (within .0) (given-second given) (given-rest-two given)) (given-first given) in
+            arm-right s (next + 1) next (λ cell counter. turn s (next + 1) left (given-second given) cell counter firstArm)
+            (statements-right b (next + 1) (next + 2) rest _ (within .0) (given-second given) (given-rest-two given)) (given-first given) in
             then-right first
             (arms-right a s next _ rest more (within .1) (λ c m u right cell counter. turn s u left right cell counter (otherArm m)) (given-first given) (first .given))
 
-        statements-right
+        pub statements-right
             : (b : Statements) (s next : ℕ) (k : Statements) (more : List Role)
             → StatementsWithin (t .alphabet) b
             → role s ≡ leaves (b before k)
@@ -514,7 +514,7 @@ module _ (t : Table) (p : Program) (word : List ℕ) (limit : ℕ) (role : ℕ �
             (statements-right b next (suc next) rest more within (given-first given) (given-rest given)) right
         arms-right (moreArms o o′ b a) s q next rest more within enter right given =
             let first =
-                arm-right s next q (enter b thisOne next (given-first given))
-                (statements-right b next (suc next) rest _ (within .0) (given-first given) (given-rest given)) right in
+            arm-right s next q (enter b thisOne next (given-first given))
+            (statements-right b next (suc next) rest _ (within .0) (given-first given) (given-rest given)) right in
             then-right first
             (arms-right a s q _ rest more (within .1) (λ c m. enter c (another m)) right (first .given))

@@ -214,7 +214,7 @@ statement-exit alphabet (choose o b) p next = refl
 statement-exit alphabet (branch o b a) p next = arms-exit alphabet a p next _
 
 -- the first state of a block stands for the block and what its exit stands for
-block-stands
+pub block-stands
     : {t : Table} (b : Statements) (s next : ℕ) {k : Statements}
     → StatementsWithin (t .alphabet) b
     → Has t (statementsPart (t .alphabet) b s next)
