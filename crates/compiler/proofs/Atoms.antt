@@ -1,308 +1,265 @@
--- An atom's rows: where a row of them passes, the atom has the truth value of its sign, and the other way round.
-use Prim.Native.Nat.{ℕ, zero, suc, _+_, _≤_, _<_, min}
+-- What an atom's rows test: with either sign, one of them fits what is read and the counter exactly when the atom has that truth.
+use Prim.Native.Nat.{ℕ, zero, suc, _≤_, _<_, min}
 use native.Mathlib.Omega.{arith}
-use native.Mathlib.Nat.{le-refl}
-use native.Mathlib.Decide.{ℕ-discrete}
+use native.Mathlib.Decide.{ℕ-discrete, decLt}
 use mathlib.Core.Path.{_≡_, refl, sym, _∙_, ap}
-use mathlib.Core.Logic.{_↔_, Iff·trans, _≢_, _⊎_, inl, inr, ∥∥₁-elim}
-use mathlib.Core.HLevel.{⊥-prop}
-use mathlib.Core.Bool.{Bool, true, false, cond, not, _||_, _&&_, or-false, or-true, and-eq-true-iff, true≢false}
-use mathlib.Core.List.{
-  List,
-  [],
-  _∷_,
-  List·Memᴰ,
-  List·Memᴰ·head,
-  List·Memᴰ·tail,
-  List·Memᴰ·not-nil,
-  List·Memᴰ·cases-cons,
-  List·Memᴰ·append-cases,
-  List·Memᴰ·eq-of-singleton,
-  Memᴰ·append-left,
-  Memᴰ·append-right,
-  Memᴰ·cast,
-  List·Nodup,
-  nodup-cons,
-}
+use mathlib.Core.Logic.{_≢_}
+use mathlib.Core.Bool.{Bool, true, false, not, _&&_, or-false, or-true}
+use mathlib.Core.List.{List, [], _∷_, List·Memᴰ, List·Memᴰ·head, List·Nodup, Memᴰ·cast, List·Memᴰ·eq-of-singleton}
 use lib.ListN.{length, getD}
-use lib.Dec.{eqb, ltb, eqb·suc-zero}
-use borrow.Author.Tests.{eqb-true, eqb-false, eq-eqb, ne-eqb, ltb-true, lt-ltb, not-true, not-false}
+use lib.Dec.{ltb, eqb}
+use borrow.Author.Tests.{eqb-true, eqb-false, eq-eqb, ne-eqb, lt-ltb, le-ltb, not-true, not-false}
 use Rattle.table.specs.Table.{Row}
 use Rattle.machine.specs.Cell as Cell
-use Rattle.machine.specs.Cell.{Symbol, symbolOn}
+use Rattle.machine.specs.Cell.{Symbol}
 use Rattle.machine.specs.Step.{symbolFits, counterFits}
-use Rattle.machine.proofs.Fits.{any-fits, either-fits, zero-fits, above-fits}
-use Rattle.rule.specs.Tree.{
-  Sought,
-  letter,
-  lend,
-  rend,
-  Atom,
-  readIs,
-  readIsNot,
-  counterIs,
-  counterIsNot,
-}
 use Rattle.rule.specs.Limits.{value}
+use Rattle.rule.specs.Tree.{Number, Sought, letter, lend, rend, Atom, readIs, readIsNot, counterIs, counterIsNot}
 use Rattle.rule.specs.Meaning.{reads, atomHolds}
 use Rattle.rule.proofs.Within.{SoughtWithin, AtomWithin}
 use Rattle.compiler.specs.Construction.{
   leftMark,
   rightMark,
   anySymbol,
-  eitherCounter,
   testRow,
+  eitherCounter,
+  symbolRows,
+  isRows,
+  isNotRows,
+  atomRows,
   indexIn,
   symbolCode,
   countUp,
   allSymbols,
   without,
-  symbolRows,
-  isRows,
-  isNotRows,
-  atomRows,
 }
-use Rattle.compiler.proofs.Truth.{turned}
-use Rattle.compiler.proofs.Symbols.{index-stands, mem-countUp, countUp-mem, without-mem, mem-without, code-mem}
+use Rattle.compiler.proofs.Every.{Every, every-nil, every-cons, every-append}
+use Rattle.compiler.proofs.Symbols.{
+  Stands,
+  index-stands,
+  index-once,
+  Known,
+  codeOf,
+  known-code,
+  code-mem,
+  mem-without,
+  without-mem,
+  countUp-mem,
+  mem-symbolRows,
+  symbolRows-mem,
+}
 
--- what stands on a cell is a mark or a letter of the alphabet
-unfoldable pub SymbolWithin : List ℕ → Symbol → Type 0
-SymbolWithin alphabet Cell.leftMark = Unit
-SymbolWithin alphabet (Cell.letter b) = List·Memᴰ b alphabet
-SymbolWithin alphabet Cell.rightMark = Unit
-
--- on a word of its letters
-pub symbol-within
-    : (alphabet word : List ℕ)
-    → ((i : ℕ) → i < length word → List·Memᴰ (getD word i 0) alphabet)
-    → (cell : ℕ) → SymbolWithin alphabet (symbolOn word cell)
-unfolding symbolOn SymbolWithin
-symbol-within alphabet word letters zero = tt
-symbol-within alphabet word letters (suc i) = go (ltb i (length word)) refl
-  where
-    go : (b : Bool) → ltb i (length word) ≡ b → SymbolWithin alphabet (cond b (Cell.letter (getD word i 0)) Cell.rightMark)
-    go true e = letters i (ltb-true i (length word) e)
-    go false e = tt
-
--- its code
-unfoldable pub codeOf : List ℕ → Symbol → ℕ
-codeOf alphabet Cell.leftMark = leftMark
-codeOf alphabet (Cell.letter b) = indexIn alphabet b
-codeOf alphabet Cell.rightMark = rightMark
-
--- what stands at an index is in the list
-pub getD-mem : (l : List ℕ) (i : ℕ) → i < length l → List·Memᴰ (getD l i 0) l
-getD-mem [] i h = absurd (omega arith)
-getD-mem (x ∷ xs) zero h = List·Memᴰ·head refl
-getD-mem (x ∷ xs) (suc i) h = List·Memᴰ·tail (getD-mem xs i (omega arith))
-
--- a letter stands at no other index
-index-only : (l : List ℕ) (b i : ℕ) → List·Nodup l → i < length l → getD l i 0 ≡ b → i ≡ indexIn l b
-unfolding indexIn
-index-only [] b i once h e = absurd (omega arith)
-index-only (x ∷ xs) b zero once h e = rw (eq-eqb b x (sym e), indexIn)
-index-only (x ∷ xs) b (suc i) once h e =
-    let rest = nodup-cons .0 once in
-    let here : List·Memᴰ b xs = Memᴰ·cast (sym e) (getD-mem xs i (omega arith)) in
-    rw (ne-eqb b x (λ q. rest .0 ∣ Memᴰ·cast (sym q) here ∣₁), indexIn) (ap suc (index-only xs b i (rest .1) (omega arith) e))
-
--- two tests for equality with the same answer
-eqb-same : (a b c d : ℕ) → (a ≡ b → c ≡ d) → (c ≡ d → a ≡ b) → eqb a b ≡ eqb c d
-eqb-same a b c d f g = go (ℕ-discrete a b)
+-- two tests of equality that pass together
+same-test : (a b c d : ℕ) → (a ≡ b → c ≡ d) → (c ≡ d → a ≡ b) → eqb a b ≡ eqb c d
+same-test a b c d f g = go (ℕ-discrete a b)
   where
     go : Dec (a ≡ b) → eqb a b ≡ eqb c d
     go (yes e) = eq-eqb a b e ∙ sym (eq-eqb c d (f e))
-    go (no e) = ne-eqb a b e ∙ sym (ne-eqb c d (λ q. e (g q)))
+    go (no n) = ne-eqb a b n ∙ sym (ne-eqb c d (λ e. n (g e)))
 
--- a row of one symbol does not go by "any symbol"
-one-symbol : (a : Bool) (code : ℕ) → code < 18 → (a || eqb code 18) ≡ true → a ≡ true
-one-symbol a code h e = simp (ne-eqb code 18 (omega arith), or-false) at e
+-- a row of these fits what is read and the counter
+pub record Passes (alphabet : List ℕ) (s : Symbol) (counter : ℕ) (rows : List Row) : Type 0 where
+  pub row : Row
+  pub listed : List·Memᴰ row rows
+  pub symbol : symbolFits alphabet (row .symbol) s ≡ true
+  pub test : counterFits (row .test) counter ≡ true
 
--- rows of these symbols from p to q
-symbol-listed : (codes : List ℕ) (code p q : ℕ) → List·Memᴰ code codes → List·Memᴰ (testRow code eitherCounter p q) (symbolRows codes p q)
-unfolding symbolRows
-symbol-listed codes code p q (List·Memᴰ·head e) = List·Memᴰ·head (ap (λ (c : ℕ). testRow c eitherCounter p q) e)
-symbol-listed codes code p q (List·Memᴰ·tail {xs = xs} m) = List·Memᴰ·tail (symbol-listed xs code p q m)
+-- the tests of the counter
+counter-zero : (counter : ℕ) → counterFits 0 counter ≡ eqb counter 0
+unfolding counterFits
+counter-zero counter =
+    or-false (eqb 0 (min counter 1)) ∙ same-test 0 (min counter 1) counter 0 (λ e. omega arith) (λ e. omega arith)
 
-listed-symbol : (codes : List ℕ) (r : Row) (p q : ℕ) → List·Memᴰ r (symbolRows codes p q) → List·Memᴰ (r .symbol) codes
-unfolding symbolRows
-listed-symbol [] r p q m = absurd (List·Memᴰ·not-nil m)
-listed-symbol (x ∷ xs) r p q (List·Memᴰ·head e) = List·Memᴰ·head (ap (λ (s : Row). s .symbol) e)
-listed-symbol (x ∷ xs) r p q (List·Memᴰ·tail m) = List·Memᴰ·tail (listed-symbol xs r p q m)
+counter-above : (counter : ℕ) → counterFits 1 counter ≡ not (eqb counter 0)
+unfolding counterFits
+counter-above zero = refl
+counter-above (suc n) = rw (eq-eqb 1 (min (suc n) 1) (omega arith), ne-eqb (suc n) 0 (omega arith))
 
--- a row of these, which only tests from p to q, passes on this symbol with this counter
-pub record Passing (alphabet : List ℕ) (symbol : Symbol) (counter p q : ℕ) (rows : List Row) : Type 0 where
-  pub code : ℕ
-  pub test : ℕ
-  pub listed : List·Memᴰ (testRow code test p q) rows
-  pub onSymbol : symbolFits alphabet code symbol ≡ true
-  pub onCounter : counterFits test counter ≡ true
+counter-either : (counter : ℕ) → counterFits eitherCounter counter ≡ true
+unfolding counterFits
+counter-either counter = or-true (eqb eitherCounter (min counter 1))
 
--- a row of one of these symbols passes
-passing-symbol
-    : {alphabet : List ℕ} {symbol : Symbol} {counter p q code : ℕ} (codes : List ℕ)
-    → List·Memᴰ code codes
-    → symbolFits alphabet code symbol ≡ true
-    → Passing alphabet symbol counter p q (symbolRows codes p q)
-passing-symbol {code = code} codes m e =
-    record {
-      code = code;
-      test = eitherCounter;
-      listed = symbol-listed codes code _ _ m;
-      onSymbol = e;
-      onCounter = either-fits _;
-    }
-
--- a row that tests the counter alone
-passing-counter
-    : {alphabet : List ℕ} {symbol : Symbol} {counter p q : ℕ} (test : ℕ)
-    → (counterFits test counter ≡ true) ↔ Passing alphabet symbol counter p q (testRow anySymbol test p q ∷ [])
-passing-counter {symbol = symbol} {counter} test = (
-  λ e. record { code = anySymbol; test = test; listed = List·Memᴰ·head refl; onSymbol = any-fits _ symbol; onCounter = e },
-  λ r.
-      let here = ap (λ (s : Row). s .test) (List·Memᴰ·eq-of-singleton (r .listed)) in
-      rw here at (r .onCounter),
-)
-
-module _ {alphabet : List ℕ} {symbol : Symbol} {counter p q : ℕ} where
-  zero-passes : (eqb counter 0 ≡ true) ↔ Passing alphabet symbol counter p q (testRow anySymbol 0 p q ∷ [])
-  zero-passes = rw (← (zero-fits counter)) (passing-counter 0)
-
-  above-passes : (eqb counter 0 ≡ false) ↔ Passing alphabet symbol counter p q (testRow anySymbol 1 p q ∷ [])
-  above-passes = (
-    λ e. passing-counter 1 .0 (above-fits counter ∙ ap not e),
-    λ r. not-true _ (sym (above-fits counter) ∙ passing-counter 1 .1 r),
-  )
-
--- all of them are tests from p to q
-symbol-tests : (codes : List ℕ) (p q : ℕ) (r : Row) → List·Memᴰ r (symbolRows codes p q) → r ≡ testRow (r .symbol) (r .test) p q
-unfolding symbolRows
-symbol-tests [] p q r m = absurd (List·Memᴰ·not-nil m)
-symbol-tests (x ∷ xs) p q r (List·Memᴰ·head e) = rw e
-symbol-tests (x ∷ xs) p q r (List·Memᴰ·tail m) = symbol-tests xs p q r m
-
-one-test : {code test p q : ℕ} (r : Row) → List·Memᴰ r (testRow code test p q ∷ []) → r ≡ testRow (r .symbol) (r .test) p q
-one-test r m = rw (List·Memᴰ·eq-of-singleton m)
-
--- an atom's rows are tests from p to q
-pub atom-tests
-    : (alphabet : List ℕ) (sign : Bool) (a : Atom) (p q : ℕ) (r : Row)
-    → List·Memᴰ r (atomRows alphabet sign a p q)
-    → r ≡ testRow (r .symbol) (r .test) p q
-unfolding atomRows
-atom-tests alphabet true (readIs x) p q = symbol-tests _ p q
-atom-tests alphabet false (readIs x) p q = symbol-tests _ p q
-atom-tests alphabet true (readIsNot x) p q = symbol-tests _ p q
-atom-tests alphabet false (readIsNot x) p q = symbol-tests _ p q
-atom-tests alphabet true (counterIs n) p q = one-test
-atom-tests alphabet false (counterIs n) p q = one-test
-atom-tests alphabet true (counterIsNot n) p q = one-test
-atom-tests alphabet false (counterIsNot n) p q = one-test
+any-symbol : (alphabet : List ℕ) (s : Symbol) → symbolFits alphabet anySymbol s ≡ true
+unfolding symbolFits
+any-symbol alphabet Cell.leftMark = refl
+any-symbol alphabet (Cell.letter b) = or-true (ltb anySymbol (length alphabet) && eqb (getD alphabet anySymbol 0) b)
+any-symbol alphabet Cell.rightMark = refl
 
 module _ (alphabet : List ℕ) (few : length alphabet ≤ 16) where
-  codes-below : (code : ℕ) → List·Memᴰ code (allSymbols alphabet) → code < 18
-  unfolding countUp
-  codes-below code m = go (List·Memᴰ·append-cases (countUp 0 (length alphabet)) m)
-    where
-      go : List·Memᴰ code (countUp 0 (length alphabet)) ⊎ List·Memᴰ code (countUp 16 2) → code < 18
-      go (inl d) = omega (arith, countUp-mem (length alphabet) 0 code d)
-      go (inr d) = omega (arith, countUp-mem 2 16 code d)
+  -- no letter has a mark's code
+  letter-no-mark : (b n : ℕ) → List·Memᴰ b alphabet → 16 ≤ n → false ≡ eqb (indexIn alphabet b) n
+  letter-no-mark b n m h = sym (ne-eqb (indexIn alphabet b) n (λ e. omega (arith, index-stands alphabet b m .below)))
 
-  -- a symbol's code is one of the codes
-  code-listed : (symbol : Symbol) → SymbolWithin alphabet symbol → List·Memᴰ (codeOf alphabet symbol) (allSymbols alphabet)
-  unfolding SymbolWithin codeOf symbolCode SoughtWithin
-  code-listed Cell.leftMark m = code-mem alphabet lend tt
-  code-listed (Cell.letter b) m = code-mem alphabet (letter (record { byte = b; place = 0 })) m
-  code-listed Cell.rightMark m = code-mem alphabet rend tt
+  mark-no-letter : (b n : ℕ) → List·Memᴰ b alphabet → 16 ≤ n → false ≡ eqb n (indexIn alphabet b)
+  mark-no-letter b n m h = letter-no-mark b n m h ∙ same-test (indexIn alphabet b) n n (indexIn alphabet b) sym sym
 
-  -- and fits it
-  code-fits : (symbol : Symbol) → SymbolWithin alphabet symbol → symbolFits alphabet (codeOf alphabet symbol) symbol ≡ true
-  unfolding SymbolWithin codeOf symbolFits
-  code-fits Cell.leftMark m = refl
-  code-fits (Cell.letter b) m =
-      let s = index-stands alphabet b m in
-      rw (lt-ltb _ _ (s .below), eq-eqb _ _ (s .finds))
-  code-fits Cell.rightMark m = refl
+  same-index :
+      (b c : ℕ) → List·Memᴰ b alphabet → List·Memᴰ c alphabet → indexIn alphabet b ≡ indexIn alphabet c → b ≡ c
+  same-index b c m n e =
+      sym (index-stands alphabet b m .finds) ∙ ap (λ (i : ℕ). getD alphabet i 0) e ∙ index-stands alphabet c n .finds
 
-  -- a letter's index is below the codes of the marks
-  index-below : (b code : ℕ) → List·Memᴰ b alphabet → 16 ≤ code → indexIn alphabet b ≢ code
-  index-below b code m h e = omega (arith, index-stands alphabet b m .below)
-
-  -- `read == x` says that the two codes are the same
-  reads-code
-      : (x : Sought) (symbol : Symbol)
+  -- to read what is sought is to read its code
+  reads-code :
+      (x : Sought) (s : Symbol)
       → SoughtWithin alphabet x
-      → SymbolWithin alphabet symbol
-      → reads x symbol ≡ eqb (symbolCode alphabet x) (codeOf alphabet symbol)
-  unfolding reads symbolCode codeOf SoughtWithin SymbolWithin
-  reads-code (letter l) Cell.leftMark m n = sym (ne-eqb _ _ (index-below (l .byte) _ m (omega arith)))
-  reads-code (letter l) (Cell.letter b) m n =
-      let s = index-stands alphabet (l .byte) m in
-      let t = index-stands alphabet b n in
-      eqb-same _ _ _ _ (ap (indexIn alphabet)) (λ e. sym (s .finds) ∙ rw e (t .finds))
-  reads-code (letter l) Cell.rightMark m n = sym (ne-eqb _ _ (index-below (l .byte) _ m (omega arith)))
-  reads-code lend Cell.leftMark m n = refl
-  reads-code lend (Cell.letter b) m n = sym (ne-eqb _ _ (λ e. index-below b _ n (omega arith) (sym e)))
-  reads-code lend Cell.rightMark m n = refl
-  reads-code rend Cell.leftMark m n = refl
-  reads-code rend (Cell.letter b) m n = sym (ne-eqb _ _ (λ e. index-below b _ n (omega arith) (sym e)))
-  reads-code rend Cell.rightMark m n = refl
+      → Known alphabet s
+      → reads x s ≡ eqb (symbolCode alphabet x) (codeOf alphabet s)
+  unfolding reads symbolCode SoughtWithin
+  reads-code (letter l) Cell.leftMark within known = letter-no-mark (l .byte) 16 within (omega arith)
+  reads-code (letter l) (Cell.letter b) within known =
+      same-test (l .byte) b _ _ (λ e. ap (indexIn alphabet) e) (same-index (l .byte) b within known)
+  reads-code (letter l) Cell.rightMark within known = letter-no-mark (l .byte) 17 within (omega arith)
+  reads-code lend Cell.leftMark within known = refl
+  reads-code lend (Cell.letter b) within known = mark-no-letter b 16 known (omega arith)
+  reads-code lend Cell.rightMark within known = refl
+  reads-code rend Cell.leftMark within known = refl
+  reads-code rend (Cell.letter b) within known = mark-no-letter b 17 known (omega arith)
+  reads-code rend Cell.rightMark within known = refl
 
+  -- a row for a code fits just the symbol with that code
   module _ (different : List·Nodup alphabet) where
-    -- of all codes, no other fits
-    code-only
-        : (code : ℕ) (symbol : Symbol)
-        → List·Memᴰ code (allSymbols alphabet)
-        → symbolFits alphabet code symbol ≡ true
-        → code ≡ codeOf alphabet symbol
-    unfolding symbolFits codeOf
-    code-only code Cell.leftMark m e = eqb-true _ _ (one-symbol _ code (codes-below code m) e)
-    code-only code (Cell.letter b) m e =
-        let e′ = and-eq-true-iff _ _ .0 (one-symbol _ code (codes-below code m) e) in
-        index-only alphabet b code different (ltb-true _ _ (e′ .0)) (eqb-true _ _ (e′ .1))
-    code-only code Cell.rightMark m e = eqb-true _ _ (one-symbol _ code (codes-below code m) e)
+    fits-letter :
+        (y b : ℕ) → y ≢ 18 → List·Memᴰ b alphabet → symbolFits alphabet y (Cell.letter b) ≡ eqb y (indexIn alphabet b)
+    unfolding symbolFits
+    fits-letter y b any known = go (decLt y (length alphabet))
+      where
+        stands : Stands alphabet b (indexIn alphabet b)
+        stands = index-stands alphabet b known
 
-    module _ (symbol : Symbol) (counter p q : ℕ) (within : SymbolWithin alphabet symbol) where
-      -- `==` passes where the symbol is read
-      is-passes
-          : (x : Sought)
-          → SoughtWithin alphabet x
-          → (reads x symbol ≡ true) ↔ Passing alphabet symbol counter p q (isRows alphabet x p q)
-      is-passes x m =
-          let same = reads-code x symbol m within in (
-            λ e. passing-symbol _ (List·Memᴰ·head (sym (eqb-true _ _ (sym same ∙ e)))) (code-fits symbol within),
-            λ r.
-                let here = List·Memᴰ·eq-of-singleton (listed-symbol _ _ p q (r .listed)) in
-                same ∙ eq-eqb _ _ (code-only _ symbol (code-mem alphabet x m) (rw here at (r .onSymbol))),
-          )
+        go : Dec (y < length alphabet) → symbolFits alphabet y (Cell.letter b) ≡ eqb y (indexIn alphabet b)
+        go (yes h) =
+            rw (lt-ltb y (length alphabet) h, ne-eqb y 18 any)
+            (or-false _ ∙ same-test (getD alphabet y 0) b y (indexIn alphabet b)
+            (λ e. index-once alphabet y (indexIn alphabet b) different h (stands .below) (e ∙ sym (stands .finds)))
+            (λ e. ap (λ (i : ℕ). getD alphabet i 0) e ∙ stands .finds))
+        go (no h) =
+            rw (le-ltb y (length alphabet) (omega arith), ne-eqb y 18 any, ne-eqb y (indexIn alphabet b) (λ e. omega (arith, stands .below)))
 
-      -- `!=` passes where it is not
-      is-not-passes
-          : (x : Sought)
-          → SoughtWithin alphabet x
-          → (reads x symbol ≡ false) ↔ Passing alphabet symbol counter p q (isNotRows alphabet x p q)
-      is-not-passes x m =
-          let same = reads-code x symbol m within in (
-            λ e.
-                passing-symbol _
-                (mem-without _ _ _ (λ q. eqb-false _ _ (sym same ∙ e) (sym q)) (code-listed symbol within))
-                (code-fits symbol within),
-            λ r.
-                let other = without-mem _ _ _ (listed-symbol _ _ p q (r .listed)) in
-                same ∙ ne-eqb _ _ (λ q. other .0 (code-only _ symbol (other .1) (r .onSymbol) ∙ sym q)),
-          )
+    fits-code :
+        (y : ℕ) (s : Symbol) → y ≢ 18 → Known alphabet s → symbolFits alphabet y s ≡ eqb y (codeOf alphabet s)
+    unfolding symbolFits
+    fits-code y Cell.leftMark any known = rw (ne-eqb y 18 any) (or-false _)
+    fits-code y (Cell.letter b) any known = fits-letter y b any known
+    fits-code y Cell.rightMark any known = rw (ne-eqb y 18 any) (or-false _)
 
-      -- an atom's rows pass exactly where it has the truth value of its sign
-      pub atom-passes
-          : (a : Atom) (sign : Bool)
+    module _ (s : Symbol) (known : Known alphabet s) (counter p q : ℕ) where
+      -- of the rows for a list of symbols, one fits just when what is read is in the list
+      symbols-pass :
+          (xs : List ℕ)
+          → Every (λ (y : ℕ). y ≢ 18) xs
+          → List·Memᴰ (codeOf alphabet s) xs
+          → Passes alphabet s counter (symbolRows xs p q)
+      symbols-pass xs f m =
+          record {
+            row = testRow (codeOf alphabet s) eitherCounter p q;
+            listed = mem-symbolRows xs p q (codeOf alphabet s) m;
+            symbol = fits-code (codeOf alphabet s) s (f .at (codeOf alphabet s) m) known ∙ eq-eqb (codeOf alphabet s) (codeOf alphabet s) refl;
+            test = counter-either counter;
+          }
+
+      pass-symbols :
+          (xs : List ℕ)
+          → Every (λ (y : ℕ). y ≢ 18) xs
+          → Passes alphabet s counter (symbolRows xs p q)
+          → List·Memᴰ (codeOf alphabet s) xs
+      pass-symbols xs f pass =
+          let found = symbolRows-mem xs p q (pass .row) (pass .listed) in
+          let y = found .0 in
+          let fits : symbolFits alphabet y s ≡ true = ap (λ (r : Row). symbolFits alphabet (r .symbol) s) (sym (found .2)) ∙ pass .symbol in
+          Memᴰ·cast (sym (eqb-true y (codeOf alphabet s) (sym (fits-code y s (f .at y (found .1)) known) ∙ fits))) (found .1)
+
+      -- `==` and `!=`
+      code-not-any : Every (λ (y : ℕ). y ≢ 18) (allSymbols alphabet)
+      code-not-any =
+          every-append (countUp 0 (length alphabet))
+          (record { at = λ y m e. omega (arith, countUp-mem (length alphabet) 0 y m) })
+          (every-cons (omega arith) (every-cons (omega arith) every-nil))
+
+      module _ (x : Sought) (within : SoughtWithin alphabet x) where
+        one-not-any : Every (λ (y : ℕ). y ≢ 18) (symbolCode alphabet x ∷ [])
+        one-not-any = every-cons (code-not-any .at (symbolCode alphabet x) (code-mem alphabet x within)) every-nil
+
+        others-not-any : Every (λ (y : ℕ). y ≢ 18) (without (symbolCode alphabet x) (allSymbols alphabet))
+        others-not-any =
+            record { at = λ y m. code-not-any .at y (without-mem (symbolCode alphabet x) y (allSymbols alphabet) m .1) }
+
+        is-pass : reads x s ≡ true → Passes alphabet s counter (isRows alphabet x p q)
+        is-pass holds =
+            symbols-pass (symbolCode alphabet x ∷ []) one-not-any
+            (List·Memᴰ·head (sym (eqb-true (symbolCode alphabet x) (codeOf alphabet s) (sym (reads-code x s within known) ∙ holds))))
+
+        pass-is : Passes alphabet s counter (isRows alphabet x p q) → reads x s ≡ true
+        pass-is pass =
+            reads-code x s within known
+            ∙ eq-eqb (symbolCode alphabet x) (codeOf alphabet s) (sym (List·Memᴰ·eq-of-singleton (pass-symbols (symbolCode alphabet x ∷ []) one-not-any pass)))
+
+        isNot-pass : reads x s ≡ false → Passes alphabet s counter (isNotRows alphabet x p q)
+        isNot-pass fails =
+            symbols-pass (without (symbolCode alphabet x) (allSymbols alphabet)) others-not-any
+            (mem-without (symbolCode alphabet x) (codeOf alphabet s) (allSymbols alphabet)
+            (λ e. eqb-false (symbolCode alphabet x) (codeOf alphabet s) (sym (reads-code x s within known) ∙ fails) (sym e))
+            (known-code alphabet s known))
+
+        pass-isNot : Passes alphabet s counter (isNotRows alphabet x p q) → reads x s ≡ false
+        pass-isNot pass =
+            let found = pass-symbols (without (symbolCode alphabet x) (allSymbols alphabet)) others-not-any pass in
+            reads-code x s within known
+            ∙ ne-eqb (symbolCode alphabet x) (codeOf alphabet s)
+            (λ e. without-mem (symbolCode alphabet x) (codeOf alphabet s) (allSymbols alphabet) found .0 (sym e))
+
+      -- a test of the counter is one row
+      counter-pass : (n : ℕ) → counterFits n counter ≡ true → Passes alphabet s counter (testRow anySymbol n p q ∷ [])
+      counter-pass n fits =
+          record { row = testRow anySymbol n p q; listed = List·Memᴰ·head refl; symbol = any-symbol alphabet s; test = fits }
+
+      pass-counter : (n : ℕ) → Passes alphabet s counter (testRow anySymbol n p q ∷ []) → counterFits n counter ≡ true
+      pass-counter n pass =
+          ap (λ (r : Row). counterFits (r .test) counter) (sym (List·Memᴰ·eq-of-singleton (pass .listed))) ∙ pass .test
+
+      module _ (n : Number) (none : value n ≡ 0) where
+        zero-pass : eqb counter (value n) ≡ true → Passes alphabet s counter (testRow anySymbol 0 p q ∷ [])
+        zero-pass holds = counter-pass 0 (counter-zero counter ∙ ap (λ (k : ℕ). eqb counter k) (sym none) ∙ holds)
+
+        pass-zero : Passes alphabet s counter (testRow anySymbol 0 p q ∷ []) → eqb counter (value n) ≡ true
+        pass-zero pass = ap (λ (k : ℕ). eqb counter k) none ∙ sym (counter-zero counter) ∙ pass-counter 0 pass
+
+        above-pass : eqb counter (value n) ≡ false → Passes alphabet s counter (testRow anySymbol 1 p q ∷ [])
+        above-pass fails =
+            counter-pass 1 (counter-above counter ∙ ap not (ap (λ (k : ℕ). eqb counter k) (sym none) ∙ fails))
+
+        pass-above : Passes alphabet s counter (testRow anySymbol 1 p q ∷ []) → eqb counter (value n) ≡ false
+        pass-above pass =
+            ap (λ (k : ℕ). eqb counter k) none
+            ∙ not-true (eqb counter 0) (sym (counter-above counter) ∙ pass-counter 1 pass)
+
+      -- an atom that has the truth of its sign has a row that fits
+      pub atom-pass :
+          (a : Atom) (sign : Bool)
           → AtomWithin alphabet a
-          → (atomHolds symbol counter a ≡ sign) ↔ Passing alphabet symbol counter p q (atomRows alphabet sign a p q)
-      unfolding atomHolds AtomWithin atomRows
-      atom-passes (readIs x) true m = is-passes x m
-      atom-passes (readIs x) false m = is-not-passes x m
-      atom-passes (readIsNot x) true m = Iff·trans (turned _ _) (is-not-passes x m)
-      atom-passes (readIsNot x) false m = Iff·trans (turned _ _) (is-passes x m)
-      atom-passes (counterIs n) true m = rw m (zero-passes)
-      atom-passes (counterIs n) false m = rw m above-passes
-      atom-passes (counterIsNot n) true m = rw m (Iff·trans (turned _ _) above-passes)
-      atom-passes (counterIsNot n) false m = rw m (Iff·trans (turned _ _) zero-passes)
+          → atomHolds s counter a ≡ sign
+          → Passes alphabet s counter (atomRows alphabet sign a p q)
+      unfolding atomHolds atomRows AtomWithin
+      atom-pass (readIs x) true within holds = is-pass x within holds
+      atom-pass (readIs x) false within holds = isNot-pass x within holds
+      atom-pass (readIsNot x) true within holds = isNot-pass x within (not-true _ holds)
+      atom-pass (readIsNot x) false within holds = is-pass x within (not-false _ holds)
+      atom-pass (counterIs n) true within holds = zero-pass n within holds
+      atom-pass (counterIs n) false within holds = above-pass n within holds
+      atom-pass (counterIsNot n) true within holds = above-pass n within (not-true _ holds)
+      atom-pass (counterIsNot n) false within holds = zero-pass n within (not-false _ holds)
+
+      -- and an atom with a row that fits has that truth
+      pub pass-atom :
+          (a : Atom) (sign : Bool)
+          → AtomWithin alphabet a
+          → Passes alphabet s counter (atomRows alphabet sign a p q)
+          → atomHolds s counter a ≡ sign
+      unfolding atomHolds atomRows AtomWithin
+      pass-atom (readIs x) true within pass = pass-is x within pass
+      pass-atom (readIs x) false within pass = pass-isNot x within pass
+      pass-atom (readIsNot x) true within pass = ap not (pass-isNot x within pass)
+      pass-atom (readIsNot x) false within pass = ap not (pass-is x within pass)
+      pass-atom (counterIs n) true within pass = pass-zero n within pass
+      pass-atom (counterIs n) false within pass = pass-above n within pass
+      pass-atom (counterIsNot n) true within pass = ap not (pass-above n within pass)
+      pass-atom (counterIsNot n) false within pass = ap not (pass-zero n within pass)

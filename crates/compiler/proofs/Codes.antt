@@ -83,7 +83,9 @@ use Rattle.compiler.specs.Construction.{
 }
 use Rattle.compiler.proofs.Symbols.{countUp-mem, without-mem, code-mem}
 use Rattle.compiler.proofs.Counts.{test-next, statements-next, arms-next}
-use Rattle.compiler.proofs.Own.{Every, every-nil, every-cons, every-append, own-below, leads-walk, statement-lone}
+use Rattle.compiler.proofs.Every.{Every, every-nil, every-cons, every-append}
+use Rattle.compiler.proofs.Own.{own-below}
+use Rattle.compiler.proofs.Parts.{leads-walk, statement-lone}
 
 -- with k letters
 pub record CodesIn (k : ℕ) (r : Row) : Type 0 where
@@ -173,22 +175,25 @@ module _ (alphabet : List ℕ) where
   atom-codes (counterIsNot n) true p q within = counter-rows (omega arith)
   atom-codes (counterIsNot n) false p q within = counter-rows (omega arith)
 
-  pub walk-codes :
-      (c : Condition) (sign : Bool) (p q next : ℕ)
+  -- a condition's rows have what its atoms' rows have
+  pub walk-every :
+      (P : Row → Type 0)
+      → ((a : Atom) (sign : Bool) (p q : ℕ) → AtomWithin alphabet a → Every P (atomRows alphabet sign a p q))
+      → (c : Condition) (sign : Bool) (p q next : ℕ)
       → ConditionWithin alphabet c
-      → Every (CodesIn (length alphabet)) (walk alphabet c sign p q next .rows)
+      → Every P (walk alphabet c sign p q next .rows)
   unfolding walk oneAfterOther oneOrOther ConditionWithin
-  walk-codes (atom a) sign p q next within = atom-codes a sign p q within
-  walk-codes (parens o c) sign p q next within = walk-codes c sign p q next within
-  walk-codes (negation o c) sign p q next within = walk-codes c (not sign) p q next within
-  walk-codes (both c d) true p q next within =
-      every-append _ (walk-codes c true p next (suc next) (within .0)) (walk-codes d true next q _ (within .1))
-  walk-codes (both c d) false p q next within =
-      every-append _ (walk-codes c false p q next (within .0)) (walk-codes d false p q _ (within .1))
-  walk-codes (either c d) true p q next within =
-      every-append _ (walk-codes c true p q next (within .0)) (walk-codes d true p q _ (within .1))
-  walk-codes (either c d) false p q next within =
-      every-append _ (walk-codes c false p next (suc next) (within .0)) (walk-codes d false next q _ (within .1))
+  walk-every P f (atom a) sign p q next within = f a sign p q within
+  walk-every P f (parens o c) sign p q next within = walk-every P f c sign p q next within
+  walk-every P f (negation o c) sign p q next within = walk-every P f c (not sign) p q next within
+  walk-every P f (both c d) true p q next within =
+      every-append _ (walk-every P f c true p next (suc next) (within .0)) (walk-every P f d true next q _ (within .1))
+  walk-every P f (both c d) false p q next within =
+      every-append _ (walk-every P f c false p q next (within .0)) (walk-every P f d false p q _ (within .1))
+  walk-every P f (either c d) true p q next within =
+      every-append _ (walk-every P f c true p q next (within .0)) (walk-every P f d true p q _ (within .1))
+  walk-every P f (either c d) false p q next within =
+      every-append _ (walk-every P f c false p next (suc next) (within .0)) (walk-every P f d false next q _ (within .1))
 
   -- so every row of every part is fine
   module _ (limit : ℕ) where
@@ -206,7 +211,7 @@ module _ (alphabet : List ℕ) where
           at =
               λ r m.
               record {
-                codes = walk-codes c sign p q next within .at r m;
+                codes = walk-every (CodesIn (length alphabet)) atom-codes c sign p q next within .at r m;
                 to = own-below (leads-walk alphabet c sign p q next .to .at r m) h k;
               };
         }
@@ -229,6 +234,7 @@ module _ (alphabet : List ℕ) where
     mutual
       unfolding statementPart statementsPart armsPart ifPart loopPart armPart andThen StatementWithin StatementsWithin ArmsWithin
 
+      -- those of a statement
       pub statement-fine :
           (s : Statement) (p next : ℕ)
           → StatementWithin alphabet s
@@ -288,6 +294,7 @@ module _ (alphabet : List ℕ) where
           (every-cons (free-fine (omega arith)) every-nil))
           (arms-fine a p next (first .next) (within .1) (omega arith) (omega arith) k))
 
+      -- those of a block's statements
       pub statements-fine :
           (b : Statements) (p next : ℕ)
           → StatementsWithin alphabet b
@@ -304,6 +311,7 @@ module _ (alphabet : List ℕ) where
           (statement-fine a p next (within .0) h (omega arith))
           (statements-fine b _ _ (within .1) (omega arith) k)
 
+      -- those of arms
       pub arms-fine :
           (a : Arms) (p q next : ℕ)
           → ArmsWithin alphabet a

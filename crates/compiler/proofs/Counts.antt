@@ -140,6 +140,7 @@ test-next alphabet c p x y next =
 mutual
   unfolding statementPart statementsPart armsPart ifPart loopPart armPart andThen statementStates statementsStates armsStates
 
+  -- a statement
   pub statement-next :
       (s : Statement) (alphabet : List ℕ) (p next : ℕ)
       → statementPart alphabet s p next .next ≡ next + statementStates s
@@ -178,6 +179,7 @@ mutual
         arms-next a alphabet p next (first .next),
       )
 
+  -- a block's statements
   pub statements-next :
       (b : Statements) (alphabet : List ℕ) (p next : ℕ)
       → statementsPart alphabet b p next .next ≡ next + statementsStates b
@@ -186,6 +188,7 @@ mutual
       let first = statementPart alphabet a p next in
       omega (arith, statement-next a alphabet p next, statements-next b alphabet (first .exit) (first .next))
 
+  -- a branch's arms after the first
   pub arms-next :
       (a : Arms) (alphabet : List ℕ) (p q next : ℕ)
       → armsPart alphabet a p q next .next ≡ next + armsStates a
@@ -199,7 +202,7 @@ pub states-formula : (p : Program) → construct p .states ≡ programStates p
 unfolding construct programPart programStates
 states-formula p = statements-next (p .body) (letterBytes (p .alphabet)) 0 1
 
--- the rows of an atom and of a condition under this sign, with k letters
+-- the rows of an atom under this sign, with k letters
 unfoldable pub atomSigned : ℕ → Atom → Bool → ℕ
 atomSigned k (readIs x) true = 1
 atomSigned k (readIs x) false = k + 1
@@ -208,6 +211,7 @@ atomSigned k (readIsNot x) false = 1
 atomSigned k (counterIs n) sign = 1
 atomSigned k (counterIsNot n) sign = 1
 
+-- the rows of a condition under this sign
 unfoldable pub walkRows : ℕ → Condition → Bool → ℕ
 walkRows k (atom a) sign = atomSigned k a sign
 walkRows k (parens o c) sign = walkRows k c sign
@@ -251,6 +255,7 @@ module _ (alphabet : List ℕ) (few : length alphabet ≤ 16) where
       (x : Sought) (p q : ℕ) → SoughtWithin alphabet x → length (isNotRows alphabet x p q) ≡ length alphabet + 1
   length-isNotRows x p q within = length-symbolRows _ p q ∙ length-others alphabet x few within
 
+  -- an atom, walked with this sign
   pub atom-rows :
       (a : Atom) (sign : Bool) (p q : ℕ)
       → AtomWithin alphabet a
@@ -265,6 +270,7 @@ module _ (alphabet : List ℕ) (few : length alphabet ≤ 16) where
   atom-rows (counterIsNot n) true p q within = refl
   atom-rows (counterIsNot n) false p q within = refl
 
+  -- a condition, walked with this sign
   pub condition-rows :
       (c : Condition) (sign : Bool)
       → ConditionWithin alphabet c
@@ -300,6 +306,7 @@ module _ (alphabet : List ℕ) (few : length alphabet ≤ 16) where
   mutual
     unfolding statementPart statementsPart armsPart ifPart loopPart armPart andThen statementRows statementsRows armsRows StatementWithin StatementsWithin ArmsWithin
 
+    -- a statement
     pub statement-rows :
         (s : Statement) (p next : ℕ)
         → StatementWithin alphabet s
@@ -344,6 +351,7 @@ module _ (alphabet : List ℕ) (few : length alphabet ≤ 16) where
           arms-rows a p next (first .next) (within .1),
         ))
 
+    -- a block's statements
     pub statements-rows :
         (b : Statements) (p next : ℕ)
         → StatementsWithin alphabet b
@@ -358,6 +366,7 @@ module _ (alphabet : List ℕ) (few : length alphabet ≤ 16) where
           statements-rows b (first .exit) (first .next) (within .1),
         ))
 
+    -- a branch's arms after the first
     pub arms-rows :
         (a : Arms) (p q next : ℕ)
         → ArmsWithin alphabet a

@@ -35,7 +35,7 @@ power-other a c other = go (decLt a c)
         ap (λ (n : ℕ). 2 ^ n / 2 ^ c % 2) more ∙ power-below (a - suc c) c
 
 -- a number with a bit set is that number or the power of two
-set-or : (x a : ℕ) → x + (1 - x / 2 ^ a % 2) * 2 ^ a ≡ bitOr x (2 ^ a)
+pub set-or : (x a : ℕ) → x + (1 - x / 2 ^ a % 2) * 2 ^ a ≡ bitOr x (2 ^ a)
 set-or x a = go (x / 2 ^ a % 2) (omega arith) (sym (ap (λ (n : ℕ). bitOr x (2 ^ a) + n) shared) ∙ or-add-and x (2 ^ a))
   where
     shared : bitAnd x (2 ^ a) ≡ x / 2 ^ a % 2 * 2 ^ a
@@ -59,11 +59,12 @@ or-one (suc (suc b)) h = absurd (omega arith)
 
 module _ (m : List ℕ) (i : ℕ) where
   -- the byte that holds the bit, as it becomes
-  new : ℕ
+  abbrev pub new : ℕ
   new = bitOr (getD m (i / 8) 0) (2 ^ (i % 8))
 
-  with-bit : withBit m i ≡ set m (i / 8) new
-  unfolding withBit bit new
+  -- a bit is set by storing that byte
+  pub with-bit : withBit m i ≡ set m (i / 8) new
+  unfolding withBit bit
   with-bit = ap (λ (n : ℕ). set m (i / 8) n) (set-or (getD m (i / 8) 0) (i % 8))
 
   -- that byte, the others, and a bit past the end
@@ -78,7 +79,7 @@ module _ (m : List ℕ) (i : ℕ) where
 
   -- the bit that is set
   pub bit-same : i / 8 < length m → bit (withBit m i) i ≡ 1
-  unfolding bit new
+  unfolding bit
   bit-same h =
       ap (λ (n : ℕ). n / 2 ^ (i % 8) % 2) (byte-same h)
       ∙ or-bit (getD m (i / 8) 0) (i % 8) (i % 8)
@@ -87,7 +88,7 @@ module _ (m : List ℕ) (i : ℕ) where
 
   -- every other bit
   pub bit-other : (j : ℕ) → j ≢ i → bit (withBit m i) j ≡ bit m j
-  unfolding bit new
+  unfolding bit
   bit-other j other = go (ℕ-discrete (j / 8) (i / 8)) (decLt (i / 8) (length m))
     where
       go : Dec (j / 8 ≡ i / 8) → Dec (i / 8 < length m) → bit (withBit m i) j ≡ bit m j
@@ -108,7 +109,6 @@ module _ (m : List ℕ) (i : ℕ) where
 
   -- and bytes still
   pub bytes-withBit : Bytes m → Bytes (withBit m i)
-  unfolding new
   bytes-withBit h j = go (ℕ-discrete j (i / 8)) (decLt (i / 8) (length m))
     where
       go : Dec (j ≡ i / 8) → Dec (i / 8 < length m) → getD (withBit m i) j 0 < 256
@@ -160,7 +160,7 @@ unfolding withBits
 bytes-withBits [] m h = h
 bytes-withBits (x ∷ xs) m h = bytes-withBits xs (withBit m x) (bytes-withBit m x h)
 
--- no bit of zeros is set
+-- zeros, by bytes and by bits
 byte-zeros : (n j : ℕ) → _≡_ {A = ℕ} (getD (replicate n 0) j 0) 0
 byte-zeros n j = go (decLt j n)
   where
@@ -168,17 +168,20 @@ byte-zeros n j = go (decLt j n)
     go (yes h) = getD-replicate n j 0 0 h
     go (no h) = List·getD-eq-default (replicate n 0) 0 (simp length-replicate (omega arith))
 
+-- no bit of zeros is set
 pub bit-zeros : (n i : ℕ) → bit (replicate n 0) i ≡ 0
 unfolding bit
 bit-zeros n i = ap (λ (b : ℕ). b / 2 ^ (i % 8) % 2) (byte-zeros n (i / 8)) ∙ ap (λ (b : ℕ). b % 2) (zero-div (2 ^ (i % 8)))
 
+-- zeros are bytes
 pub bytes-zeros : (n : ℕ) → Bytes (replicate n 0)
 bytes-zeros n j = rw byte-zeros (omega arith)
 
--- with zeros to begin with, a bit is 1 only for a state of the list, and else 0
+-- with zeros to begin with, the bit of every other state is 0
 pub bits-zero : (ss : List ℕ) (n s : ℕ) → ¬ List·Memᴰ s ss → bit (withBits (replicate n 0) ss) s ≡ 0
 bits-zero ss n s absent = bits-out ss (replicate n 0) s absent ∙ bit-zeros n s
 
+-- so a bit that is 1 is that of a state of the list
 pub bits-only : (ss : List ℕ) (n s : ℕ) → bit (withBits (replicate n 0) ss) s ≡ 1 → List·Memᴰ s ss
 bits-only ss n s one = go (isIn s ss) refl
   where

@@ -13,7 +13,9 @@ use Rattle.rule.specs.Tree.{Program, letterBytes}
 use Rattle.rule.specs.Limits.{faults}
 use Rattle.rule.proofs.Within.{program-within, length-letterBytes}
 use Rattle.compiler.specs.Construction.{programPart, construct}
-use Rattle.compiler.proofs.Own.{Every, every-nil, Own, own-below, Laid, statements-series}
+use Rattle.compiler.proofs.Every.{Every, every-nil}
+use Rattle.compiler.proofs.Own.{Own, own-below, Laid}
+use Rattle.compiler.proofs.Parts.{statements-series}
 use Rattle.compiler.proofs.Codes.{Fine, statements-fine}
 use Rattle.compiler.proofs.SetBit.{bits-in, bits-only, bits-zero, length-withBits, bytes-withBits, bytes-zeros}
 
@@ -41,11 +43,12 @@ from-below : (p : Program) (r : Row) → List·Memᴰ r (construct p .rows) → 
 unfolding construct
 from-below p r m = own-below (program-laid p .from .at r m) (program-grows p) (le-refl _)
 
--- a state accepts in the table exactly when the construction says so
+-- a state that accepts in the table is one that the construction makes accepting
 pub accepts-listed : (p : Program) (s : ℕ) → Accepting (construct p) s → List·Memᴰ s (programPart p .accepting)
 unfolding construct
 accepts-listed p s one = bits-only (programPart p .accepting) 16 s one
 
+-- and each of those accepts
 pub listed-accepts :
     (p : Program) (s : ℕ) → construct p .states ≤ 128 → List·Memᴰ s (programPart p .accepting) → Accepting (construct p) s
 unfolding construct

@@ -1,4 +1,3 @@
 -- Laws of the definitions of a rule.
 pub mod Parse
 pub mod Within
-pub mod Runs

@@ -137,12 +137,14 @@ SoughtWithin alphabet (letter l) = List·Memᴰ (l .byte) alphabet
 SoughtWithin alphabet lend = Unit
 SoughtWithin alphabet rend = Unit
 
+-- and the counter is tested against 0 only
 unfoldable pub AtomWithin : List ℕ → Atom → Type 0
 AtomWithin alphabet (readIs x) = SoughtWithin alphabet x
 AtomWithin alphabet (readIsNot x) = SoughtWithin alphabet x
 AtomWithin alphabet (counterIs n) = value n ≡ 0
 AtomWithin alphabet (counterIsNot n) = value n ≡ 0
 
+-- so in every atom of a condition
 unfoldable pub ConditionWithin : List ℕ → Condition → Type 0
 ConditionWithin alphabet (atom a) = AtomWithin alphabet a
 ConditionWithin alphabet (parens p c) = ConditionWithin alphabet c
@@ -150,6 +152,7 @@ ConditionWithin alphabet (negation p c) = ConditionWithin alphabet c
 ConditionWithin alphabet (both c d) = ConditionWithin alphabet c × ConditionWithin alphabet d
 ConditionWithin alphabet (either c d) = ConditionWithin alphabet c × ConditionWithin alphabet d
 
+-- a number is at most the greatest that may stand there
 unfoldable pub PlainWithin : Plain → Type 0
 PlainWithin (moveBy n) = value n ≤ 63
 PlainWithin (moveBack n) = value n ≤ 63
@@ -160,6 +163,7 @@ PlainWithin decrement = Unit
 PlainWithin (add n) = value n ≤ 31
 PlainWithin (subtract n) = value n ≤ 31
 
+-- so in every part of a statement, of a block's statements and of arms
 unfoldable mutual
   pub StatementWithin : List ℕ → Statement → Type 0
   StatementWithin alphabet (plain e) = PlainWithin e
@@ -180,6 +184,7 @@ unfoldable mutual
   ArmsWithin alphabet (lastArm p o b) = StatementsWithin alphabet b
   ArmsWithin alphabet (moreArms p o b a) = StatementsWithin alphabet b × ArmsWithin alphabet a
 
+-- a program's letters are at most 16 and different, and its body is within its limits
 pub record ProgramWithin (p : Program) : Type 0 where
   pub few : length (letterBytes (p .alphabet)) ≤ 16
   pub different : List·Nodup (letterBytes (p .alphabet))
@@ -295,7 +300,7 @@ mutual
         arms-within a alphabet opened (suc arms) (nil-right first _ blocks),
       )
 
--- a letter is no more bytes than one
+-- as many bytes as letters
 pub length-letterBytes : (ls : List Letter) → length (letterBytes ls) ≡ length ls
 unfolding letterBytes
 length-letterBytes [] = refl
