@@ -1,24 +1,24 @@
 -- Table and program agree: for every word of its letters and every limit, one has an accepting run within it exactly when
 -- the other has. For every program without faults whose table has at most 128 states.
 use Prim.Native.Nat.{ℕ, _≤_, _<_}
-use mathlib.Core.Path.{_≡_}
+use mathlib.Core.Path.{_≡_, subst⁻¹}
 use mathlib.Core.List.{List, [], List·Memᴰ}
 use lib.ListN.{length, getD}
 use Rattle.machine.specs.Step.{Situation}
 use Rattle.machine.specs.Run.{Reach, begins, goes, Accepts}
-use Rattle.rule.specs.Tree.{done, Program}
+use Rattle.rule.specs.Tree.{Statements, done, Program}
 use Rattle.rule.specs.Limits.{faults}
 use Rattle.rule.specs.Meaning as Meaning
-use Rattle.rule.specs.Meaning.{_before_, Comes, ProgramAccepts}
+use Rattle.rule.specs.Meaning.{Comes, ProgramAccepts}
 use Rattle.rule.proofs.Within.{program-within}
 use Rattle.compiler.specs.Construction.{programPart, construct}
 use Rattle.compiler.specs.Compile.{Agree}
 use Rattle.compiler.proofs.WellFormed.{accepts-listed, listed-accepts}
-use Rattle.compiler.proofs.Setting.{Setting, setting, before-done}
+use Rattle.compiler.proofs.Trial.{trial, before-done}
 use Rattle.compiler.proofs.Fragments.{Stands, atEnd, block-stands}
 use Rattle.compiler.proofs.ToTable.{to-table}
 use Rattle.compiler.proofs.Roles.{programRoles, roleOf, role-given, given-first, given-rest}
-use Rattle.compiler.proofs.Sound.{Here, comes, came, At}
+use Rattle.compiler.proofs.Sound.{Here, comes, came}
 use Rattle.compiler.proofs.ToProgram.{Right, statements-right}
 
 module _ (p : Program) (none : faults p ≡ []) where
@@ -35,14 +35,11 @@ module _ (p : Program) (none : faults p ≡ []) where
       (word : List ℕ)
       (limit : ℕ)
       (letters : (i : ℕ) → i < length word → List·Memᴰ (getD word i 0) (construct p .alphabet)) where
-    this : Setting
-    this = setting p none word limit letters
-
     -- every row of the table is sound
-    program-right : Right this (roleOf p) (programPart p) done []
-    unfolding this setting construct programPart programRoles
+    program-right : Right (trial p none word limit letters) (roleOf p) (programPart p) done []
+    unfolding trial construct programPart programRoles
     program-right =
-        statements-right this (roleOf p) (p .body) 0 1 done [] (program-within p none .body)
+        statements-right (trial p none word limit letters) (roleOf p) (p .body) 0 1 done [] (program-within p none .body)
         (given-first (role-given p))
         (given-rest (role-given p))
 
@@ -51,11 +48,8 @@ module _ (p : Program) (none : faults p ≡ []) where
         {s : Situation}
         → Reach (construct p) word limit s
         → Here p word limit (roleOf p (s .state)) (s .cell) (s .counter)
-    unfolding this setting construct roleOf programRoles
-    reach-here begins =
-        let whole : Comes p word limit (record { left = p .body before done; cell = 0; counter = 0 }) =
-        rw before-done Meaning.begins in
-        comes whole
+    unfolding trial construct roleOf programRoles
+    reach-here begins = comes (subst⁻¹ (λ (b : Statements). Comes p word limit (record { left = b; cell = 0; counter = 0 })) (before-done (p .body)) Meaning.begins)
     reach-here (goes reached step low) =
         program-right .rows .at (step .row) (step .listed) .keeping _ _ (step .takes) low (reach-here reached)
 
@@ -73,8 +67,8 @@ module _ (p : Program) (none : faults p ≡ []) where
 
 -- table and program agree
 pub agree : (p : Program) → faults p ≡ [] → construct p .states ≤ 128 → Agree p
-unfolding setting
+unfolding trial
 agree p none few word limit letters = (
   to-program p none word limit letters,
-  to-table (setting p none word limit letters) (body-stands p none few),
+  to-table (trial p none word limit letters) (body-stands p none few),
 )

@@ -1,20 +1,23 @@
--- What both directions need of conditions: the truth values of `!`, `&&` and `||` by those of their parts, and that an
--- atom's rows only test, from p to q.
-use Prim.Native.Nat.{ℕ, _<_, _≤_}
+-- What both directions need of conditions: the truth values of `!`, `&&` and `||` by those of their parts, what a row that
+-- only tests leaves as it is, and that an atom's rows are such rows.
+use Prim.Native.Nat.{ℕ, _≤_}
 use native.Mathlib.Omega.{arith}
 use mathlib.Core.Path.{_≡_, refl, ap}
 use mathlib.Core.Logic.{_↔_, _⊎_, inl, inr, ⊎-elim}
 use mathlib.Core.Bool.{Bool, true, false, not, _&&_, _||_, true≢false, false≢true}
+use mathlib.Core.Option.{some}
 use mathlib.Core.List.{List}
 use borrow.Author.Tests.{not-true, not-false}
 use Rattle.table.specs.Table.{Row}
+use Rattle.machine.specs.Cell.{last, moved}
+use Rattle.machine.specs.Step.{changed}
 use Rattle.rule.specs.Tree.{Atom, atom}
 use Rattle.rule.proofs.Within.{AtomWithin, ConditionWithin}
 use Rattle.compiler.specs.Construction.{atomRows, walk}
 use Rattle.compiler.proofs.Every.{Every}
 use Rattle.compiler.proofs.Own.{Own, start, taken}
 use Rattle.compiler.proofs.Parts.{leads-walk}
-use Rattle.compiler.proofs.Effects.{Still, walk-still}
+use Rattle.compiler.proofs.Effects.{stays, keeps, Still, walk-still}
 
 -- a negation has the other truth value
 pub turned : (b sign : Bool) → (not b ≡ sign) ↔ (b ≡ not sign)
@@ -40,6 +43,13 @@ one-true false b = (inr, ⊎-elim (λ e. absurd (false≢true e)) (λ e. e))
 pub both-false : (a b : Bool) → ((a || b) ≡ false) ↔ ((a ≡ false) × (b ≡ false))
 both-false true b = (λ e. absurd (true≢false e), λ e. e .0)
 both-false false b = (λ e. (refl, e), λ e. e .1)
+
+-- a row that only tests leaves the cell and the counter as they are
+pub still-moves : {r : Row} (word : List ℕ) (cell : ℕ) → Still r → cell ≤ last word → moved word (r .move) cell ≡ cell
+still-moves word cell still inside = rw (still .move) (stays word cell inside)
+
+pub still-changes : {r : Row} (stops : Bool) (counter : ℕ) → Still r → changed stops (r .change) counter ≡ some counter
+still-changes stops counter still = rw (still .change) (keeps stops counter)
 
 -- a row from p to q that only tests
 pub record Between (p q : ℕ) (r : Row) : Type 0 where

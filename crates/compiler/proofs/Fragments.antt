@@ -45,17 +45,20 @@ use Rattle.compiler.specs.Construction.{
 }
 use Rattle.compiler.proofs.Every.{Every}
 
--- a property of every element of a list, for its parts
 module _ {A : Type 0} {P : A → Type 0} where
+  -- a property of every element of two lists together, for the first
   pub every-left : (xs ys : List A) → Every P (xs ++ ys) → Every P xs
   every-left xs ys f = record { at = λ x m. f .at x (Memᴰ·append-left ys m) }
 
+  -- for the second
   pub every-right : (xs ys : List A) → Every P (xs ++ ys) → Every P ys
   every-right xs ys f = record { at = λ x m. f .at x (Memᴰ·append-right xs m) }
 
+  -- for the first element
   pub every-head : {x : A} {xs : List A} → Every P (x ∷ xs) → P x
   every-head {x} f = f .at x (List·Memᴰ·head refl)
 
+  -- for the other elements
   pub every-tail : {x : A} {xs : List A} → Every P (x ∷ xs) → Every P xs
   every-tail f = record { at = λ x m. f .at x (List·Memᴰ·tail m) }
 
@@ -68,7 +71,7 @@ pub record Has (t : Table) (part : Part) : Type 0 where
   pub rows : Every (IsRow t) (part .rows)
   pub accepting : Every (Accepting t) (part .accepting)
 
--- the same of the parts of an if, of a loop, of an arm, and of one part after another
+-- it has the parts of an if
 pub record HasIf (t : Table) (tests : Added) (yesPart noPart : Part) (q : ℕ) : Type 0 where
   pub testing : Every (IsRow t) (tests .rows)
   pub yesHas : Has t yesPart
@@ -76,17 +79,20 @@ pub record HasIf (t : Table) (tests : Added) (yesPart noPart : Part) (q : ℕ) :
   pub noHas : Has t noPart
   pub noFree : IsRow t (free (noPart .exit) q)
 
+-- it has the parts of a loop
 pub record HasLoop (t : Table) (first : List Row) (body : Part) (p : ℕ) : Type 0 where
   pub starting : Every (IsRow t) first
   pub bodyHas : Has t body
   pub back : IsRow t (free (body .exit) p)
 
+-- it has the parts of an arm
 pub record HasArm (t : Table) (body : Part) (p a q : ℕ) : Type 0 where
   pub into : IsRow t (free p a)
   pub bodyHas : Has t body
   pub out : IsRow t (free (body .exit) q)
 
 module _ {t : Table} where
+  -- with an if, it has its parts
   pub has-if :
       {tests : Added} {yesPart noPart : Part} {q : ℕ} → Has t (ifPart tests yesPart noPart q) → HasIf t tests yesPart noPart q
   unfolding ifPart
@@ -110,6 +116,7 @@ module _ {t : Table} where
         noFree = every-head (every-right (noPart .rows) _ afterFree);
       }
 
+  -- with a loop, it has its parts
   pub has-loop : {first : List Row} {body : Part} {p : ℕ} (q : ℕ) → Has t (loopPart first body p q) → HasLoop t first body p
   unfolding loopPart
   has-loop {first} {body} q h =
@@ -120,6 +127,7 @@ module _ {t : Table} where
         back = every-head (every-right (body .rows) _ afterFirst);
       }
 
+  -- with an arm, it has its parts
   pub has-arm : {body : Part} {p a q : ℕ} → Has t (armPart body p a q) → HasArm t body p a q
   unfolding armPart
   has-arm {body} h =
@@ -130,11 +138,13 @@ module _ {t : Table} where
         out = every-head (every-right (body .rows) _ afterFree);
       }
 
+  -- with one part after another, it has the one
   pub has-first : (a b : Part) → Has t (andThen a b) → Has t a
   unfolding andThen
   has-first a b h =
       record { rows = every-left (a .rows) _ (h .rows); accepting = every-left (a .accepting) _ (h .accepting) }
 
+  -- and the other
   pub has-second : (a b : Part) → Has t (andThen a b) → Has t b
   unfolding andThen
   has-second a b h =

@@ -9,7 +9,7 @@ pub mod SetBit
 pub mod WellFormed
 pub mod Effects
 pub mod Atoms
-pub mod Setting
+pub mod Trial
 pub mod Conditions
 pub mod Roles
 pub mod Fragments

@@ -1,6 +1,6 @@
 -- The roles of states: what a program has left to run where its table is in that state. States are numbered as taken,
 -- so the roles stand in a list, in the order of the construction.
-use Prim.Native.Nat.{ℕ, zero, suc, _+_, _≤_, _<_}
+use Prim.Native.Nat.{ℕ, suc, _+_}
 use native.Mathlib.Numerals.{add-one, add-two, add-three}
 use mathlib.Core.Path.{_≡_, refl}
 use mathlib.Core.Bool.{Bool, true, false, not}
@@ -47,6 +47,7 @@ walkRoles (both c d) false m more = walkRoles c false m (walkRoles d false m mor
 walkRoles (either c d) true m more = walkRoles c true m (walkRoles d true m more)
 walkRoles (either c d) false m more = knows m c false ∷ walkRoles c false m (walkRoles d false (knows m c false) more)
 
+-- and both tests of a condition, where it holds and where it fails
 unfoldable pub testRoles : Condition → Role → List Role → List Role
 testRoles c m more = walkRoles c true m (walkRoles c false m more)
 
@@ -89,13 +90,14 @@ pub data Given (role : ℕ → Role) : ℕ → List Role → Type 0 where
   one : {n : ℕ} {m : Role} {ms : List Role} → role n ≡ m → Given role (suc n) ms → Given role n (m ∷ ms)
 
 module _ {role : ℕ → Role} {n : ℕ} where
+  -- the first of them, and those behind it
   pub given-first : {m : Role} {ms : List Role} → Given role n (m ∷ ms) → role n ≡ m
   given-first (one e g) = e
 
   pub given-rest : {m : Role} {ms : List Role} → Given role n (m ∷ ms) → Given role (suc n) ms
   given-rest (one e g) = g
 
-  -- with numerals, as the construction writes them
+  -- the second, the third, and those behind, with numerals as the construction writes them
   pub given-second : {a b : Role} {ms : List Role} → Given role n (a ∷ b ∷ ms) → role (n + 1) ≡ b
   given-second (one e (one f g)) = rw add-one f
 
@@ -108,11 +110,12 @@ module _ {role : ℕ → Role} {n : ℕ} where
   pub given-rest-three : {a b c : Role} {ms : List Role} → Given role n (a ∷ b ∷ c ∷ ms) → Given role (n + 3) ms
   given-rest-three (one e (one f (one h g))) = rw add-three g
 
--- a list gives the states from 0 on its roles
+-- roles from one state further on
 given-shift : (role : ℕ → Role) {n : ℕ} {ms : List Role} → Given (λ s. role (suc s)) n ms → Given role (suc n) ms
 given-shift role none = none
 given-shift role (one e g) = one e (given-shift role g)
 
+-- a list gives the states from 0 on its roles
 pub given-all : (ms : List Role) (other : Role) → Given (λ s. getD ms s other) 0 ms
 given-all [] other = none
 given-all (m ∷ ms) other = one refl (given-shift (λ s. getD (m ∷ ms) s other) (given-all ms other))
@@ -121,9 +124,11 @@ given-all (m ∷ ms) other = one refl (given-shift (λ s. getD (m ∷ ms) s othe
 unfoldable pub programRoles : Program → List Role
 programRoles p = leaves (p .body before done) ∷ statementsRoles (p .body) done []
 
+-- any other state is none of the table's
 unfoldable pub roleOf : Program → ℕ → Role
 roleOf p s = getD (programRoles p) s (leaves done)
 
+-- it is the one that the list gives
 pub role-given : (p : Program) → Given (roleOf p) 0 (programRoles p)
 unfolding roleOf
 role-given p = given-all (programRoles p) (leaves done)

@@ -1,9 +1,12 @@
 -- Table to program: every row of the construction is sound, and a part accepts only where an `accept` is in front.
 use Prim.Native.Nat.{ℕ, suc, _+_}
 use mathlib.Core.Path.{_≡_, sym, _∙_}
-use mathlib.Core.List.{List, []}
+use mathlib.Core.Bool.{true, false}
+use mathlib.Core.List.{List, [], _∷_}
 use Rattle.table.specs.Table.{Row}
+use Rattle.machine.specs.Cell.{Symbol}
 use Rattle.rule.specs.Tree.{
+  Condition,
   Statement,
   plain,
   accept,
@@ -21,11 +24,13 @@ use Rattle.rule.specs.Tree.{
   moreArms,
 }
 use Rattle.rule.specs.Meaning.{
+  holds,
   _before_,
   Arm,
   lastOne,
   thisOne,
   another,
+  Turns,
   ifHolds,
   ifFails,
   elseHolds,
@@ -37,11 +42,12 @@ use Rattle.rule.specs.Meaning.{
   firstArm,
   otherArm,
 }
-use Rattle.rule.proofs.Within.{StatementWithin, StatementsWithin, ArmsWithin}
+use Rattle.rule.proofs.Within.{ConditionWithin, StatementWithin, StatementsWithin, ArmsWithin}
 use Rattle.compiler.specs.Construction.{
   free,
   Added,
   Part,
+  test,
   ifPart,
   loopPart,
   armPart,
@@ -51,10 +57,11 @@ use Rattle.compiler.specs.Construction.{
   armsPart,
 }
 use Rattle.compiler.proofs.Every.{Every, every-nil, every-cons, every-append}
-use Rattle.compiler.proofs.Setting.{Setting}
+use Rattle.compiler.proofs.Trial.{Trial}
 use Rattle.compiler.proofs.Roles.{
   Role,
   leaves,
+  testRoles,
   statementRoles,
   statementsRoles,
   armsRoles,
@@ -66,7 +73,7 @@ use Rattle.compiler.proofs.Roles.{
   given-rest-two,
   given-rest-three,
 }
-use Rattle.compiler.proofs.Sound.{At, Sound, free-sound, plain-sound, turn, Tested, tests-sound}
+use Rattle.compiler.proofs.Sound.{Sound, plain-sound, turn-sound, same-sound, Tested, tests-sound}
 
 -- this state's role has an `accept` in front
 pub record Accepts (role : ℕ → Role) (s : ℕ) : Type 0 where
@@ -75,13 +82,13 @@ pub record Accepts (role : ℕ → Role) (s : ℕ) : Type 0 where
 
 -- a part's rows are sound, it accepts only where an `accept` is in front, its exit leaves these statements, and the states
 -- after it have these roles
-pub record Right (x : Setting) (role : ℕ → Role) (part : Part) (k : Statements) (more : List Role) : Type 0 where
+pub record Right (x : Trial) (role : ℕ → Role) (part : Part) (k : Statements) (more : List Role) : Type 0 where
   pub rows : Every (Sound x role) (part .rows)
   pub accepting : Every (Accepts role) (part .accepting)
   pub exit : role (part .exit) ≡ leaves k
   pub given : Given role (part .next) more
 
-module _ {x : Setting} {role : ℕ → Role} where
+module _ {x : Trial} {role : ℕ → Role} where
   -- no rows
   empty-right :
       {s next : ℕ} {k : Statements} {more : List Role}
@@ -96,8 +103,9 @@ module _ {x : Setting} {role : ℕ → Role} where
       → Right x role part k more
       → role q ≡ leaves k
       → Sound x role (free (part .exit) q)
-  out-sound {part} q f right = free-sound x role (part .exit) q (λ cell counter h. rw (f .exit ∙ sym right) at h)
+  out-sound {part} q f right = same-sound x role (part .exit) q (f .exit ∙ sym right)
 
+  -- an if
   if-right :
       {tests : Added} {yesPart noPart : Part} {k : Statements} {more more′ more″ : List Role} (q : ℕ)
       → Tested x role tests more″
@@ -117,6 +125,7 @@ module _ {x : Setting} {role : ℕ → Role} where
         given = h .given;
       }
 
+  -- a loop
   loop-right :
       {first : List Row} {body : Part} {k rest : Statements} {more : List Role} (s q : ℕ)
       → Every (Sound x role) first
@@ -133,21 +142,23 @@ module _ {x : Setting} {role : ℕ → Role} where
         given = g .given;
       }
 
+  -- an arm
   arm-right :
       {body : Part} {rest : Statements} {more : List Role} (s a q : ℕ)
-      → ((cell counter : ℕ) → At x role s cell counter → At x role a cell counter)
+      → Sound x role (free s a)
       → Right x role body rest more
       → role q ≡ leaves rest
       → Right x role (armPart body s a q) rest more
   unfolding armPart
   arm-right s a q f g right =
       record {
-        rows = every-cons (free-sound x role s a f) (every-append _ (g .rows) (every-cons (out-sound q g right) every-nil));
+        rows = every-cons f (every-append _ (g .rows) (every-cons (out-sound q g right) every-nil));
         accepting = g .accepting;
         exit = right;
         given = g .given;
       }
 
+  -- one part after another
   then-right :
       {a b : Part} {k rest : Statements} {more more′ : List Role}
       → Right x role a k more′
@@ -162,8 +173,34 @@ module _ {x : Setting} {role : ℕ → Role} where
         given = g .given;
       }
 
-module _ (x : Setting) (role : ℕ → Role) where
-  open Setting x using (table as t)
+module _ (x : Trial) (role : ℕ → Role) where
+  open Trial x using (table as t)
+
+  -- the tests of an if, which turns into these where its condition holds and into those where it fails
+  if-tests :
+      {a : Statement} {rest k k′ : Statements} {more : List Role} (c : Condition) (s next : ℕ)
+      → ConditionWithin (t .alphabet) c
+      → role s ≡ leaves (a then rest)
+      → Given role next (leaves rest ∷ leaves k ∷ leaves k′ ∷ testRoles c (leaves (a then rest)) more)
+      → ((symbol : Symbol) (counter : ℕ) → holds symbol counter c ≡ true → Turns symbol counter a rest k)
+      → ((symbol : Symbol) (counter : ℕ) → holds symbol counter c ≡ false → Turns symbol counter a rest k′)
+      → Tested x role (test (t .alphabet) c s (next + 1) (next + 2) (next + 3)) more
+  if-tests c s next within left given =
+      tests-sound x role c s (next + 1) (next + 2) (next + 3) within left (given-second given) (given-third given)
+      (given-rest-three given)
+
+  -- the tests of a while
+  while-tests :
+      {a : Statement} {rest k : Statements} {more : List Role} (c : Condition) (s next : ℕ)
+      → ConditionWithin (t .alphabet) c
+      → role s ≡ leaves (a then rest)
+      → Given role next (leaves rest ∷ leaves k ∷ testRoles c (leaves (a then rest)) more)
+      → ((symbol : Symbol) (counter : ℕ) → holds symbol counter c ≡ true → Turns symbol counter a rest k)
+      → ((symbol : Symbol) (counter : ℕ) → holds symbol counter c ≡ false → Turns symbol counter a rest rest)
+      → Tested x role (test (t .alphabet) c s (next + 1) next (next + 2)) more
+  while-tests c s next within left given =
+      tests-sound x role c s (next + 1) next (next + 2) within left (given-second given) (given-first given)
+      (given-rest-two given)
 
   mutual
     unfolding statementPart statementsPart armsPart statementRoles statementsRoles armsRoles StatementWithin StatementsWithin ArmsWithin _before_
@@ -191,43 +228,29 @@ module _ (x : Setting) (role : ℕ → Role) where
         }
     statement-right reject s next rest more within left given = empty-right (given-first given) (given-rest given)
     statement-right (if c o b) s next rest more within left given =
-        let tests =
-        tests-sound x role c s (next + 1) (next + 2) (next + 3) (within .0) left (given-rest-three given)
-        (λ cell counter e. turn x role s (next + 1) left (given-second given) cell counter (ifHolds e))
-        (λ cell counter e. turn x role s (next + 2) left (given-third given) cell counter (ifFails e)) in
+        let tests = if-tests c s next (within .0) left given (λ symbol counter. ifHolds) (λ symbol counter. ifFails) in
         let yesPart = statements-right b (next + 1) _ rest more (within .1) (given-second given) (tests .given) in
         if-right next tests yesPart (empty-right (given-third given) (yesPart .given)) (given-first given)
     statement-right (ifElse c o b o′ b′) s next rest more within left given =
-        let tests =
-        tests-sound x role c s (next + 1) (next + 2) (next + 3) (within .0) left (given-rest-three given)
-        (λ cell counter e. turn x role s (next + 1) left (given-second given) cell counter (elseHolds e))
-        (λ cell counter e. turn x role s (next + 2) left (given-third given) cell counter (elseFails e)) in
+        let tests = if-tests c s next (within .0) left given (λ symbol counter. elseHolds) (λ symbol counter. elseFails) in
         let yesPart = statements-right b (next + 1) _ rest _ (within .1) (given-second given) (tests .given) in
         let noPart = statements-right b′ (next + 2) _ rest more (within .2) (given-third given) (yesPart .given) in
         if-right next tests yesPart noPart (given-first given)
     statement-right (while c o b) s next rest more within left given =
-        let tests =
-        tests-sound x role c s (next + 1) next (next + 2) (within .0) left (given-rest-two given)
-        (λ cell counter e. turn x role s (next + 1) left (given-second given) cell counter (whileHolds e))
-        (λ cell counter e. turn x role s next left (given-first given) cell counter (whileFails e)) in
+        let tests = while-tests c s next (within .0) left given (λ symbol counter. whileHolds) (λ symbol counter. whileFails) in
         let body = statements-right b (next + 1) _ _ more (within .1) (given-second given) (tests .given) in
         loop-right s next (tests .rows) body left (given-first given)
     statement-right (choose o b) s next rest more within left given =
-        let round = free-sound x role s (next + 1) (λ cell counter. turn x role s (next + 1) left (given-second given) cell counter goesRound) in
-        let out = free-sound x role s next (λ cell counter. turn x role s next left (given-first given) cell counter stops) in
+        let round = turn-sound x role s (next + 1) left (given-second given) (λ symbol counter. goesRound) in
+        let out = turn-sound x role s next left (given-first given) (λ symbol counter. stops) in
         let body = statements-right b (next + 1) (next + 2) _ more within (given-second given) (given-rest-two given) in
         loop-right s next (every-cons round (every-cons out every-nil)) body left (given-first given)
     statement-right (branch o b a) s next rest more within left given =
-        let first =
-        arm-right s (next + 1) next
-        (λ cell counter. turn x role s (next + 1) left (given-second given) cell counter firstArm)
-        (statements-right b (next + 1) (next + 2) rest _ (within .0) (given-second given) (given-rest-two given))
-        (given-first given) in
+        let into = turn-sound x role s (next + 1) left (given-second given) (λ symbol counter. firstArm) in
+        let body = statements-right b (next + 1) (next + 2) rest _ (within .0) (given-second given) (given-rest-two given) in
+        let first = arm-right s (next + 1) next into body (given-first given) in
         then-right first
-        (arms-right a s next _ rest more (within .1)
-        (λ c m u right cell counter. turn x role s u left right cell counter (otherArm m))
-        (given-first given)
-        (first .given))
+        (arms-right a s next _ rest more (within .1) left (λ c m symbol counter. otherArm m) (given-first given) (first .given))
 
     -- a block's part, from a state that leaves it and what comes after it
     pub statements-right :
@@ -241,21 +264,21 @@ module _ (x : Setting) (role : ℕ → Role) where
         let first = statement-right a s next (b before k) _ (within .0) left given in
         then-right first (statements-right b _ _ k more (within .1) (first .exit) (first .given))
 
-    -- arms, from a state that may go on as each of them
+    -- arms, from a state that leaves a statement which may turn into each of them
     pub arms-right :
-        (a : Arms) (s q next : ℕ) (rest : Statements) (more : List Role)
+        (a : Arms) (s q next : ℕ) (rest : Statements) (more : List Role) {whole : Statement}
         → ArmsWithin (t .alphabet) a
-        → ((b : Statements) → Arm b a → (u : ℕ) → role u ≡ leaves (b before rest) → (cell counter : ℕ) → At x role s cell counter → At x role u cell counter)
+        → role s ≡ leaves (whole then rest)
+        → ((b : Statements) → Arm b a → (symbol : Symbol) (counter : ℕ) → Turns symbol counter whole rest (b before rest))
         → role q ≡ leaves rest
         → Given role next (armsRoles a rest more)
         → Right x role (armsPart (t .alphabet) a s q next) rest more
-    arms-right (lastArm o o′ b) s q next rest more within enter right given =
-        arm-right s next q (enter b lastOne next (given-first given))
-        (statements-right b next (suc next) rest more within (given-first given) (given-rest given))
-        right
-    arms-right (moreArms o o′ b a) s q next rest more within enter right given =
-        let first =
-        arm-right s next q (enter b thisOne next (given-first given))
-        (statements-right b next (suc next) rest _ (within .0) (given-first given) (given-rest given))
-        right in
-        then-right first (arms-right a s q _ rest more (within .1) (λ c m. enter c (another m)) right (first .given))
+    arms-right (lastArm o o′ b) s q next rest more within left enter right given =
+        let into = turn-sound x role s next left (given-first given) (enter b lastOne) in
+        let body = statements-right b next (suc next) rest more within (given-first given) (given-rest given) in
+        arm-right s next q into body right
+    arms-right (moreArms o o′ b a) s q next rest more within left enter right given =
+        let into = turn-sound x role s next left (given-first given) (enter b thisOne) in
+        let body = statements-right b next (suc next) rest _ (within .0) (given-first given) (given-rest given) in
+        let first = arm-right s next q into body right in
+        then-right first (arms-right a s q _ rest more (within .1) left (λ c m. enter c (another m)) right (first .given))

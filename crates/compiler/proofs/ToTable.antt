@@ -1,7 +1,7 @@
 -- Program to table: whatever a run of the program comes to, a run of the table reaches a state that stands for it.
 -- Each step of the program is one row or several, with the counter as it is until the last.
-use Prim.Native.Nat.{ℕ, suc, _+_, _≤_}
-use mathlib.Core.Path.{_≡_, refl, sym, _∙_, ap}
+use Prim.Native.Nat.{ℕ, suc, _≤_}
+use mathlib.Core.Path.{_≡_, refl, sym, _∙_}
 use mathlib.Core.Logic.{_⊎_, ⊎-elim}
 use mathlib.Core.Bool.{Bool, true, false, not}
 use mathlib.Core.Option.{some}
@@ -22,6 +22,7 @@ use Rattle.rule.specs.Tree.{
   plain,
   accept,
   Statements,
+  done,
   _then_,
   Arms,
 }
@@ -60,6 +61,7 @@ use Rattle.compiler.specs.Construction.{
   oneAfterOther,
   oneOrOther,
   walk,
+  Part,
   test,
   armPart,
   statementPart,
@@ -67,10 +69,19 @@ use Rattle.compiler.specs.Construction.{
   armsPart,
 }
 use Rattle.compiler.proofs.Every.{Every}
-use Rattle.compiler.proofs.Effects.{stays, keeps, plain-moves, plain-changes, Still}
+use Rattle.compiler.proofs.Effects.{plain-moves, plain-changes, Still}
 use Rattle.compiler.proofs.Atoms.{atom-pass}
-use Rattle.compiler.proofs.Conditions.{turned, both-true, one-false, one-true, both-false, atom-between}
-use Rattle.compiler.proofs.Setting.{Setting, comes-inside, comes-low}
+use Rattle.compiler.proofs.Conditions.{
+  turned,
+  both-true,
+  one-false,
+  one-true,
+  both-false,
+  still-moves,
+  still-changes,
+  atom-between,
+}
+use Rattle.compiler.proofs.Trial.{Trial, comes-inside, comes-low}
 use Rattle.compiler.proofs.Fragments.{
   every-left,
   every-right,
@@ -78,6 +89,7 @@ use Rattle.compiler.proofs.Fragments.{
   every-tail,
   IsRow,
   Has,
+  HasIf,
   has-if,
   has-loop,
   has-arm,
@@ -89,8 +101,8 @@ use Rattle.compiler.proofs.Fragments.{
   block-stands,
 }
 
-module _ (x : Setting) where
-  open Setting x using (table as t, word, limit)
+module _ (x : Trial) where
+  open Trial x using (table as t, word, limit)
 
   -- a run of the table comes here
   abbrev At : ℕ → ℕ → ℕ → Type 0
@@ -110,8 +122,8 @@ module _ (x : Setting) where
         record {
           fits = fits-row (record { state = refl; symbol = e; counter = f });
           state = refl;
-          cell = rw (still .move) (sym (stays word cell inside));
-          counter = rw (still .change) (keeps (t .stops) counter);
+          cell = sym (still-moves word cell still inside);
+          counter = still-changes (t .stops) counter still;
         }
 
     -- and leads on
@@ -134,9 +146,11 @@ module _ (x : Setting) where
     record Leads (w : Walk) (A : Type 0) : Type 0 where
       leads : (p q next : ℕ) → A → Every (IsRow t) (w p q next .rows) → At p cell counter → At q cell counter
 
+    -- and where something follows from which it does
     leads-where : {w : Walk} {A B : Type 0} → (B → A) → Leads w A → Leads w B
     leads-where f l = record { leads = λ p q next h. l .leads p q next (f h) }
 
+    -- `a && b`: where the one and the other hold
     after-leads : {a b : Walk} {A B : Type 0} → Leads a A → Leads b B → Leads (oneAfterOther a b) (A × B)
     unfolding oneAfterOther
     after-leads {a} f g =
@@ -148,6 +162,7 @@ module _ (x : Setting) where
               (f .leads p next (suc next) (h .0) (every-left (first .rows) _ rows) here);
         }
 
+    -- `a || b`: where one of them holds
     or-leads : {a b : Walk} {A B : Type 0} → Leads a A → Leads b B → Leads (oneOrOther a b) (A ⊎ B)
     unfolding oneOrOther
     or-leads {a} f g =
@@ -238,6 +253,18 @@ module _ (x : Setting) where
         record { state = s; next = next; reached = here; within = within; has = has; after = after }
     settle here (onward m more) = settle (free-goes inside low _ _ m here) more
 
+    -- to a block's first state, where a free row leads from the block's exit to q
+    block-arrives :
+        (b : Statements) (s q next : ℕ) {k : Statements}
+        → StatementsWithin (t .alphabet) b
+        → Has t (statementsPart (t .alphabet) b s next)
+        → IsRow t (free (statementsPart (t .alphabet) b s next .exit) q)
+        → Stands t q k
+        → At s cell counter
+        → Arrived (b before k) cell counter
+    block-arrives b s q next within has out after here =
+        record { state = s; reached = here; stands = block-stands b s next within has (onward out after) }
+
     -- into an arm
     arm-arrives :
         (b : Statements) (p a q next : ℕ) {rest : Statements}
@@ -248,11 +275,7 @@ module _ (x : Setting) where
         → Arrived (b before rest) cell counter
     arm-arrives b p a q next within has after here =
         let rows = has-arm has in
-        record {
-          state = a;
-          reached = free-goes inside low p a (rows .into) here;
-          stands = block-stands b a next within (rows .bodyHas) (onward (rows .out) after);
-        }
+        block-arrives b a q next within (rows .bodyHas) (rows .out) after (free-goes inside low p a (rows .into) here)
 
     -- into one of several arms
     arms-arrive :
@@ -270,69 +293,67 @@ module _ (x : Setting) where
     arms-arrive p q next (another m) within has after here =
         arms-arrive p q _ m (within .1) (has-second _ _ has) after here
 
+    -- into the block of an if whose condition holds
+    yes-arrives :
+        (c : Condition) (b : Statements) (p u v q next n : ℕ) {noPart : Part} {rest : Statements}
+        → ConditionWithin (t .alphabet) c
+        → StatementsWithin (t .alphabet) b
+        → HasIf t (test (t .alphabet) c p u v next) (statementsPart (t .alphabet) b u n) noPart q
+        → Stands t q rest
+        → At p cell counter
+        → holds (symbolOn word cell) counter c ≡ true
+        → Arrived (b before rest) cell counter
+    yes-arrives c b p u v q next n within within′ rows after here e =
+        block-arrives b u q n within′ (rows .yesHas) (rows .yesFree) after
+        (holding-leads inside low c p u v next within e (rows .testing) here)
+
+    -- into the other block of an if whose condition fails; without an else it is empty
+    no-arrives :
+        (c : Condition) (b : Statements) (p u v q next n : ℕ) {yesPart : Part} {rest : Statements}
+        → ConditionWithin (t .alphabet) c
+        → StatementsWithin (t .alphabet) b
+        → HasIf t (test (t .alphabet) c p u v next) yesPart (statementsPart (t .alphabet) b v n) q
+        → Stands t q rest
+        → At p cell counter
+        → holds (symbolOn word cell) counter c ≡ false
+        → Arrived (b before rest) cell counter
+    no-arrives c b p u v q next n within within′ rows after here e =
+        block-arrives b v q n within′ (rows .noHas) (rows .noFree) after
+        (failing-leads inside low c p u v next within e (rows .testing) here)
+
+    -- out of a loop
+    out-arrives : {a : Statement} {rest : Statements} (f : Starts a rest cell counter) → At (f .next) cell counter → Arrived rest cell counter
+    out-arrives f here = record { state = f .next; reached = here; stands = f .after }
+
     -- a statement turns into others: over the rows of its test, or over a free row
     turns-arrives :
         {a : Statement} {rest k : Statements}
         → Turns (symbolOn word cell) counter a rest k
         → Starts a rest cell counter
         → Arrived k cell counter
-    unfolding statementPart StatementWithin
+    unfolding statementPart statementsPart StatementWithin StatementsWithin _before_
     turns-arrives (ifHolds {c = c} {b = b} e) f =
-        let rows = has-if (f .has) in
-        record {
-          state = f .next + 1;
-          reached = holding-leads inside low c _ _ _ _ (f .within .0) e (rows .testing) (f .reached);
-          stands = block-stands b _ _ (f .within .1) (rows .yesHas) (onward (rows .yesFree) (f .after));
-        }
+        yes-arrives c b _ _ _ _ _ _ (f .within .0) (f .within .1) (has-if (f .has)) (f .after) (f .reached) e
     turns-arrives (ifFails {c = c} e) f =
-        let rows = has-if (f .has) in
-        record {
-          state = f .next + 2;
-          reached = failing-leads inside low c _ _ _ _ (f .within .0) e (rows .testing) (f .reached);
-          stands = onward (rows .noFree) (f .after);
-        }
+        no-arrives c done _ _ _ _ _ _ (f .within .0) tt (has-if (f .has)) (f .after) (f .reached) e
     turns-arrives (elseHolds {c = c} {b = b} e) f =
-        let rows = has-if (f .has) in
-        record {
-          state = f .next + 1;
-          reached = holding-leads inside low c _ _ _ _ (f .within .0) e (rows .testing) (f .reached);
-          stands = block-stands b _ _ (f .within .1) (rows .yesHas) (onward (rows .yesFree) (f .after));
-        }
+        yes-arrives c b _ _ _ _ _ _ (f .within .0) (f .within .1) (has-if (f .has)) (f .after) (f .reached) e
     turns-arrives (elseFails {c = c} {b′ = b′} e) f =
-        let rows = has-if (f .has) in
-        record {
-          state = f .next + 2;
-          reached = failing-leads inside low c _ _ _ _ (f .within .0) e (rows .testing) (f .reached);
-          stands = block-stands b′ _ _ (f .within .2) (rows .noHas) (onward (rows .noFree) (f .after));
-        }
+        no-arrives c b′ _ _ _ _ _ _ (f .within .0) (f .within .2) (has-if (f .has)) (f .after) (f .reached) e
     turns-arrives (whileHolds {c = c} {b = b} e) f =
         let rows = has-loop _ (f .has) in
-        record {
-          state = f .next + 1;
-          reached = holding-leads inside low c _ _ _ _ (f .within .0) e (rows .starting) (f .reached);
-          stands = block-stands b _ _ (f .within .1) (rows .bodyHas) (onward (rows .back) (again f));
-        }
+        block-arrives b _ _ _ (f .within .1) (rows .bodyHas) (rows .back) (again f)
+        (holding-leads inside low c _ _ _ _ (f .within .0) e (rows .starting) (f .reached))
     turns-arrives (whileFails {c = c} e) f =
         let rows = has-loop _ (f .has) in
-        record {
-          state = f .next;
-          reached = failing-leads inside low c _ _ _ _ (f .within .0) e (rows .starting) (f .reached);
-          stands = f .after;
-        }
+        out-arrives f (failing-leads inside low c _ _ _ _ (f .within .0) e (rows .starting) (f .reached))
     turns-arrives (goesRound {b = b}) f =
         let rows = has-loop _ (f .has) in
-        record {
-          state = f .next + 1;
-          reached = free-goes inside low _ _ (every-head (rows .starting)) (f .reached);
-          stands = block-stands b _ _ (f .within) (rows .bodyHas) (onward (rows .back) (again f));
-        }
+        block-arrives b _ _ _ (f .within) (rows .bodyHas) (rows .back) (again f)
+        (free-goes inside low _ _ (every-head (rows .starting)) (f .reached))
     turns-arrives stops f =
         let rows = has-loop _ (f .has) in
-        record {
-          state = f .next;
-          reached = free-goes inside low _ _ (every-head (every-tail (rows .starting))) (f .reached);
-          stands = f .after;
-        }
+        out-arrives f (free-goes inside low _ _ (every-head (every-tail (rows .starting))) (f .reached))
     turns-arrives (firstArm {b = b}) f =
         arm-arrives b _ _ _ _ (f .within .0) (has-first _ _ (f .has)) (f .after) (f .reached)
     turns-arrives (otherArm m) f =

@@ -17,7 +17,8 @@ use Rattle.compiler.specs.Construction.{construct}
 use Rattle.compiler.proofs.Symbols.{Known}
 use Rattle.compiler.proofs.Effects.{plain-inside}
 
-pub record Setting : Type 0 where
+-- a program is tried against its table
+pub record Trial : Type 0 where
   pub table : Table
   pub program : Program
   pub word : List ℕ
@@ -42,15 +43,15 @@ known-symbol alphabet word letters (suc i) = go (ltb i (length word)) refl
     go false e = tt
 
 -- a program without faults, with its own table
-unfoldable pub setting :
+unfoldable pub trial :
     (p : Program)
     → faults p ≡ []
     → (word : List ℕ)
     → ℕ
     → ((i : ℕ) → i < length word → List·Memᴰ (getD word i 0) (construct p .alphabet))
-    → Setting
+    → Trial
 unfolding construct
-setting p none word limit letters =
+trial p none word limit letters =
     record {
       table = construct p;
       program = p;
