@@ -1,20 +1,19 @@
 -- Table and program agree: for every word of its letters and every limit, one has an accepting run within it exactly when
 -- the other has. For every program without faults whose table has at most 128 states.
 use Prim.Native.Nat.{ℕ, _≤_, _<_}
-use mathlib.Core.Path.{_≡_, subst⁻¹}
+use mathlib.Core.Path.{_≡_}
 use mathlib.Core.List.{List, [], List·Memᴰ}
 use lib.ListN.{length, getD}
 use Rattle.machine.specs.Step.{Situation}
 use Rattle.machine.specs.Run.{Reach, begins, goes, Accepts}
-use Rattle.rule.specs.Tree.{Statements, done, Program}
+use Rattle.rule.specs.Tree.{done, Program}
 use Rattle.rule.specs.Limits.{faults}
-use Rattle.rule.specs.Meaning as Meaning
-use Rattle.rule.specs.Meaning.{Comes, ProgramAccepts}
+use Rattle.rule.specs.Meaning.{ProgramAccepts}
 use Rattle.rule.proofs.Within.{program-within}
 use Rattle.compiler.specs.Construction.{programPart, construct}
 use Rattle.compiler.specs.Compile.{Agree}
 use Rattle.compiler.proofs.WellFormed.{accepts-listed, listed-accepts}
-use Rattle.compiler.proofs.Trial.{trial, before-done}
+use Rattle.compiler.proofs.Trial.{trial, before-done, begins-whole}
 use Rattle.compiler.proofs.Fragments.{Stands, atEnd, block-stands}
 use Rattle.compiler.proofs.ToTable.{to-table}
 use Rattle.compiler.proofs.Roles.{programRoles, roleOf, role-given, given-first, given-rest}
@@ -49,7 +48,7 @@ module _ (p : Program) (none : faults p ≡ []) where
         → Reach (construct p) word limit s
         → Here p word limit (roleOf p (s .state)) (s .cell) (s .counter)
     unfolding trial construct roleOf programRoles
-    reach-here begins = comes (subst⁻¹ (λ (b : Statements). Comes p word limit (record { left = b; cell = 0; counter = 0 })) (before-done (p .body)) Meaning.begins)
+    reach-here begins = comes begins-whole
     reach-here (goes reached step low) =
         program-right .rows .at (step .row) (step .listed) .keeping _ _ (step .takes) low (reach-here reached)
 

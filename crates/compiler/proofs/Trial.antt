@@ -63,6 +63,12 @@ trial p none word limit letters =
       same = refl;
     }
 
+-- a block with nothing after it
+pub before-done : (b : Statements) → b before done ≡ b
+unfolding _before_
+before-done done = refl
+before-done (a then b) = ap (λ (c : Statements). a then c) (before-done b)
+
 module _ {p : Program} {word : List ℕ} {limit : ℕ} where
   -- a run of the program stays on the word's cells
   pub comes-inside : {s : Standing} → Comes p word limit s → s .cell ≤ last word
@@ -75,8 +81,6 @@ module _ {p : Program} {word : List ℕ} {limit : ℕ} where
   comes-low begins = zero-le
   comes-low (goes came step low) = low
 
--- a block with nothing after it
-pub before-done : (b : Statements) → b before done ≡ b
-unfolding _before_
-before-done done = refl
-before-done (a then b) = ap (λ (c : Statements). a then c) (before-done b)
+  -- a run begins with the whole body, and nothing after it
+  pub begins-whole : Comes p word limit (record { left = p .body before done; cell = 0; counter = 0 })
+  begins-whole = rw before-done begins
