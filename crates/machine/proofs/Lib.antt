@@ -1,2 +1,3 @@
--- Laws of what runs reach.
+-- Laws of what runs reach, and of rows that fit.
 pub mod Run
+pub mod Fits
