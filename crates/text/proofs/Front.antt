@@ -7,7 +7,7 @@ use mathlib.Core.Path.{_≡_, refl, sym, ap, _∙_, subst, subst₂}
 use mathlib.Core.Logic.{⊎-elim}
 use mathlib.Core.Bool.{Bool, true, false, not, cond, _&&_, _||_}
 use mathlib.Core.List.{List, [], _∷_, _++_, List·Memᴰ, List·Memᴰ·head, List·Memᴰ·tail, cons≢nil, head-eq-of-cons-eq, tail-eq-of-cons-eq}
-use lib.ListN.{length, take, drop, getD, length-take, take-append-drop}
+use lib.ListN.{length, take, drop, getD, length-append, take-append-drop}
 use lib.Seq.{length-take-le, take-append-seam, drop-append-seam}
 use lib.Dec.{T, eqb, leb, leb→le, eqb→eq, T-not}
 use borrow.Author.Tests.{lt-leb, ne-eqb, eqb-true}
@@ -137,9 +137,9 @@ spells-fits r (aSign {s} m) = sign-fits s r m
 pub spells-within : {b : ℕ} {bs l : List ℕ} {u : Token} (r : List ℕ) → (b ∷ bs) ≡ l ++ r → Spells l u → Within b bs l u
 spells-within {b} {bs} {l} {u} r e s = subst (λ (bytes : List ℕ). Fits bytes l u) (sym e) (spells-fits r s)
 
--- no token is empty
-pub spells-some : {l : List ℕ} {u : Token} (r : List ℕ) → [] ≡ l ++ r → ¬ Spells l u
-spells-some {l} {u} r e s = subst (λ (bytes : List ℕ). Fits bytes l u) (sym e) (spells-fits r s)
+-- no token begins where there are no bytes, so none is empty
+pub empty-no-token : NoToken []
+empty-no-token l r u e s = subst (λ (bytes : List ℕ). Fits bytes l u) (sym e) (spells-fits r s)
 
 -- these bytes of the front are a token of this sort
 abbrev Reads : Sort → List ℕ → ℕ → Type 0
@@ -291,3 +291,65 @@ pub lex-right : (bytes : List ℕ) → Stands bytes (lex bytes)
 unfolding lex
 lex-right [] = refl
 lex-right (b ∷ bs) = as-right b bs (kind b) refl refl
+
+-- where white space or a comment stands, no token does
+blank-no-token : {bytes rest : List ℕ} {n : ℕ} → Blank bytes n rest → NoToken bytes
+blank-no-token {rest} (comment body e t c) = rw e (no-slash (slash ∷ (body ++ rest)))
+blank-no-token (white {b} t) = λ l r u z s.
+    let k = spells-within r z s .sameKind in
+    let w = kind-white b t in
+    let f : _≡_ {A = ℕ} 0 1 = cc in
+    omega arith
+
+fits-once : (bytes l : List ℕ) (t u : Token) → Fits bytes l t → Fits bytes l u → t ≡ u
+fits-once [] l t u f g = absurd f
+fits-once (b ∷ bs) l t u f g =
+    let same : sortOf t ≡ sortOf u = cc in
+    sym (f .token) ∙ (ap (λ k. made k l) same ∙ g .token)
+
+-- the same bytes are one token only
+pub spells-once : {l : List ℕ} {t u : Token} → Spells l t → Spells l u → t ≡ u
+spells-once {l} {t} {u} s v = fits-once (l ++ []) l t u (spells-fits [] s) (spells-fits [] v)
+
+-- one longest token begins the bytes
+pub found-once : {bytes : List ℕ} {n m : ℕ} {t u : Token} → Found bytes n t → Found bytes m u → (n ≡ m) × (t ≡ u)
+found-once {bytes} {n} {m} {t} {u} h g =
+    let less : length (take m bytes) ≤ length (take n bytes) = h .longest .longest _ _ _ (g .longest .begins) (g .longest .spells) in
+    let more : length (take n bytes) ≤ length (take m bytes) = g .longest .longest _ _ _ (h .longest .begins) (h .longest .spells) in
+    let same : n ≡ m = omega (arith, length-take-le n bytes (h .fits), length-take-le m bytes (g .fits)) in
+    (same, spells-once (h .longest .spells) (rw same (g .longest .spells)))
+
+found-no-nothing : {bytes : List ℕ} {n : ℕ} {t : Token} → Found bytes n t → ¬ NoToken bytes
+found-no-nothing h none = none _ _ _ (h .longest .begins) (h .longest .spells)
+
+found-is : {bytes : List ℕ} {n : ℕ} {t : Token} (x : Lexed) → Stands bytes x → Found bytes n t → x ≡ found n t
+found-is over x h = absurd (found-no-nothing h (rw x empty-no-token))
+found-is (skip m) x h = absurd (found-no-nothing h (blank-no-token x))
+found-is (found m u) x h = let same = found-once x h in λ i. found (same .0 i) (same .1 i)
+found-is bad x h = absurd (found-no-nothing h (x .noToken))
+
+bad-is : {bytes : List ℕ} (x : Lexed) → Stands bytes x → Bad bytes → x ≡ bad
+bad-is over x h = absurd (h .some x)
+bad-is (skip m) x h = absurd (h .noBlank _ _ x)
+bad-is (found m u) x h = absurd (found-no-nothing x (h .noToken))
+bad-is bad x h = refl
+
+-- and nothing else stands there
+pub lex-is : (bytes : List ℕ) (x : Lexed) → Stands bytes x → lex bytes ≡ x
+unfolding lex
+lex-is bytes over h = rw h
+lex-is bytes (skip n) h = blank-lex h .0
+lex-is bytes (found n t) h = found-is (lex bytes) (lex-right bytes) h
+lex-is bytes bad h = bad-is (lex bytes) (lex-right bytes) h
+
+-- the longest token is found, and what follows it is what its length leaves
+pub longest-found : {bytes lexeme rest : List ℕ} {t : Token} → Longest bytes lexeme rest t → Found bytes (length lexeme) t × (drop (length lexeme) bytes ≡ rest)
+longest-found {bytes} {lexeme} {rest} {t} h =
+    let front : take (length lexeme) bytes ≡ lexeme = ap (take (length lexeme)) (h .begins) ∙ take-append-seam lexeme rest in
+    let back : drop (length lexeme) bytes ≡ rest = ap (drop (length lexeme)) (h .begins) ∙ drop-append-seam lexeme rest in (
+      record {
+        longest = subst₂ (λ (l r : List ℕ). Longest bytes l r t) (sym front) (sym back) h;
+        fits = omega (arith, simp length-append at (ap length (h .begins)));
+      },
+      back,
+    )

@@ -4,3 +4,4 @@ pub mod Same
 pub mod Runs
 pub mod Front
 pub mod Tokens
+pub mod Rising

@@ -126,20 +126,3 @@ scanFrom (suc fuel) place bytes = step (lex bytes) place (λ n. scanFrom fuel (p
 unfoldable pub scan : List ℕ → Scanned
 unfolding scanFrom
 scan text = scanFrom (suc (length text)) 0 text
-
-example : scan (spelling "c += 12; // x") .tokens ≡ (w "c" at 0) ∷ (s "+=" at 2) ∷ (number (spelling "12") at 5) ∷ (s ";" at 7) ∷ []
-unfolding scan
-example = refl
-
-bal : List ℕ
-bal =
-    spelling
-    "alphabet=['u','r'];decr_on_zero=false;twoc(string){move(1);while(read!=rend){if(read=='u'){c++;}else{c--;}move(1);}if(c==0){accept;}} // +"
-
-example2 : scan bal .ending ≡ ends 138
-unfolding scan bal
-example2 = refl
-
-example3 : length (scan bal .tokens) ≡ 63
-unfolding scan bal
-example3 = refl
