@@ -5,7 +5,6 @@ use mathlib.Core.List.{List, [], _∷_}
 use lib.ListN.{length}
 use Rattle.text.specs.Token.{Token}
 use Rattle.text.specs.Tokens.{Placed, _at_, Ending, Tokens, TokensOf}
-use Rattle.text.specs.Tokens
 use Rattle.text.proofs.Front.{longest-found}
 use Rattle.text.proofs.Tokens.{found-some}
 

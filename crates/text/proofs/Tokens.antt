@@ -1,14 +1,15 @@
 -- The tokens of a text: there are some, `scan` finds them, there are no others, and they end where the text does.
-use Prim.Native.Nat.{ℕ, zero, suc, pred, _+_, _-_, _≤_, _<_, zero-le, suc-le-suc}
+use Prim.Native.Nat.{ℕ, zero, suc, pred, _+_, _<_, zero-le, suc-le-suc}
 use native.Mathlib.Omega.{arith}
 use mathlib.Core.Path.{_≡_, refl, sym, ap, _∙_, subst}
-use mathlib.Core.List.{List, [], _∷_, _++_, cons≢nil}
-use lib.ListN.{length, take, drop, length-append, length-drop}
+use mathlib.Core.List.{List, [], _∷_, cons≢nil}
+use lib.ListN.{length, drop, length-append, length-drop}
 use lib.Seq.{length-take-le}
-use Rattle.text.specs.Token.{Token, Spells}
+use Rattle.text.specs.Token.{Token}
 use Rattle.text.specs.Tokens.{Placed, _at_, Ending, ends, broken, Blank, white, comment, Longest, Tokens, end, blank, token, none, TokensOf}
 use Rattle.text.proofs.Scan.{Lexed, over, skip, found, bad, lex, Scanned, before, step, scanFrom, scan}
-use Rattle.text.proofs.Front.{Found, Bad, Stands, lex-right, lex-is, blank-lex, longest-found, empty-no-token}
+use Rattle.text.proofs.Front.{Found, Stands, lex-right, lex-is, blank-lex, longest-found}
+use Rattle.text.proofs.Reach.{empty-no-token}
 
 -- these are the tokens of the bytes from a place on
 abbrev Scans : ℕ → List ℕ → Scanned → Type 0
@@ -18,6 +19,7 @@ blank-some : {bytes rest : List ℕ} {n : ℕ} → Blank bytes n rest → 0 < n
 blank-some (white t) = omega arith
 blank-some (comment body e t c) = omega arith
 
+-- a token found has bytes
 pub found-some : {bytes : List ℕ} {n : ℕ} {t : Token} → Found bytes n t → 0 < n
 found-some {n = zero} h = absurd (empty-no-token [] [] _ refl (h .longest .spells))
 found-some {n = suc n} h = suc-le-suc zero-le
@@ -61,12 +63,18 @@ blank-length {rest} (comment body e t c) = omega (arith, ap length e, length-app
 longest-length : {bytes lexeme rest : List ℕ} {t : Token} → Longest bytes lexeme rest t → length bytes ≡ length lexeme + length rest
 longest-length {lexeme} {rest} h = ap length (h .begins) ∙ length-append lexeme rest
 
-scan-step : (fuel place : ℕ) (bytes : List ℕ) (x : Lexed) → length bytes < fuel → lex bytes ≡ x → scanFrom fuel place bytes ≡ step x place (λ n. scanFrom (pred fuel) (place + n) (drop n bytes))
+scan-step : (fuel place : ℕ) (bytes : List ℕ) (x : Lexed)
+    → length bytes < fuel
+    → lex bytes ≡ x
+    → scanFrom fuel place bytes ≡ step x place (λ n. scanFrom (pred fuel) (place + n) (drop n bytes))
 unfolding scanFrom
 scan-step zero place bytes x h e = absurd (omega arith)
 scan-step (suc fuel) place bytes x h e = ap (λ y. step y place (λ n. scanFrom fuel (place + n) (drop n bytes))) e
 
-tokens-from : {place : ℕ} {bytes : List ℕ} {ts : List Placed} {e : Ending} (fuel : ℕ) → Tokens place bytes ts e → length bytes < fuel → scanFrom fuel place bytes ≡ record { tokens = ts; ending = e }
+tokens-from : {place : ℕ} {bytes : List ℕ} {ts : List Placed} {e : Ending} (fuel : ℕ)
+    → Tokens place bytes ts e
+    → length bytes < fuel
+    → scanFrom fuel place bytes ≡ record { tokens = ts; ending = e }
 unfolding step before
 tokens-from {place} {bytes} fuel end h = scan-step fuel place [] over h (lex-is [] over refl)
 tokens-from {place} {bytes} fuel (blank {n = n} {rest = rest} b g) h =
@@ -86,10 +94,10 @@ pub tokens-scanned : {text : List ℕ} {ts : List Placed} {e : Ending} → Token
 unfolding scan
 tokens-scanned {text} h = tokens-from (suc (length text)) h (omega arith)
 
--- a text has one list of tokens and one ending
-pub tokens-once : {text : List ℕ} {ts us : List Placed} {e f : Ending} → TokensOf text ts e → TokensOf text us f → (ts ≡ us) × (e ≡ f)
-tokens-once h g =
-    let same = sym (tokens-scanned h) ∙ tokens-scanned g in
+-- a text has one list of tokens and one ending, counted from any place
+pub tokens-once : {place : ℕ} {text : List ℕ} {ts us : List Placed} {e f : Ending} → Tokens place text ts e → Tokens place text us f → (ts ≡ us) × (e ≡ f)
+tokens-once {text} h g =
+    let same = sym (tokens-from (suc (length text)) h (omega arith)) ∙ tokens-from (suc (length text)) g (omega arith) in
     (ap (λ (r : Scanned). r .tokens) same, ap (λ (r : Scanned). r .ending) same)
 
 -- where a text of this length may end, or its tokens break off
