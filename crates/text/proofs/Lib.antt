@@ -6,3 +6,4 @@ pub mod Reach
 pub mod Front
 pub mod Tokens
 pub mod Rising
+pub mod Sorting

@@ -1,3 +1,4 @@
 -- What the tokens of a text are, and where each stands.
 pub mod Token
 pub mod Tokens
+pub mod Inside

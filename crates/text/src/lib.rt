@@ -1,1 +1,2 @@
 // The tokens of a text.
+mod kinds;
