@@ -1,11 +1,13 @@
 -- What the tokeniser's functions promise each other. No caller relies on any of it.
-use Prim.Native.Nat.{ℕ}
-use mathlib.Core.Bool.{Bool, true, false, _||_}
+use Prim.Native.Nat.{ℕ, _+_, _≤_, _<_}
+use mathlib.Core.Path.{_≡_}
+use mathlib.Core.Bool.{Bool, true, false, not, _||_}
 use mathlib.Core.List.{List, [], _∷_}
+use lib.ListN.{length, getD}
 use lib.Dec.{eqb}
 use Rattle.bits.specs.Byte.{isDigit, isAlphabetic}
 use Rattle.text.specs.Token.{quote, signs}
-use Rattle.text.specs.Tokens.{isWhite, slash}
+use Rattle.text.specs.Tokens.{isWhite, slash, lineFeed}
 use Rattle.text.specs.declared.kinds.Kind.{Kind}
 use Rattle.text.specs.declared.kinds.Kind.the-variants.{Digit, Alphabetic, Underscore, Quote, White, Slash, Sign, Other}
 
@@ -29,3 +31,13 @@ sorted false false false false false false false = Other
 -- the kind of a byte
 abbrev pub kindOf : ℕ → Kind
 kindOf b = sorted (isDigit b) (isAlphabetic b) (eqb b 95) (eqb b quote) (isWhite b) (eqb b slash) (begins signs b)
+
+-- a comment goes on with any byte but a line feed
+abbrev pub inComment : ℕ → Bool
+inComment b = not (eqb b lineFeed)
+
+-- from a place on the bytes pass the test, up to this place, where one does not or the text is over
+pub data Run (test : ℕ → Bool) (text : List ℕ) : ℕ → ℕ → Type 0 where
+  over : {i : ℕ} → length text ≤ i → Run test text i i
+  stop : {i : ℕ} → i < length text → test (getD text i 0) ≡ false → Run test text i i
+  on : {i n : ℕ} → i < length text → test (getD text i 0) ≡ true → Run test text (i + 1) n → Run test text i n

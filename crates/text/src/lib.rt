@@ -1,2 +1,3 @@
 // The tokens of a text.
+mod ends;
 mod kinds;
