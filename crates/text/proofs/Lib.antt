@@ -7,3 +7,4 @@ pub mod Front
 pub mod Tokens
 pub mod Rising
 pub mod Sorting
+pub mod Named

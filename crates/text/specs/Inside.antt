@@ -8,6 +8,9 @@ use lib.Dec.{eqb}
 use Rattle.bits.specs.Byte.{isDigit, isAlphabetic}
 use Rattle.text.specs.Token.{quote, signs}
 use Rattle.text.specs.Tokens.{isWhite, slash, lineFeed}
+use Rattle.text.specs.First.{reserved, name}
+use Rattle.text.specs.declared.Word.{Word}
+use Rattle.text.specs.declared.Word.the-variants as Word
 use Rattle.text.specs.declared.kinds.Kind.{Kind}
 use Rattle.text.specs.declared.kinds.Kind.the-variants.{Digit, Alphabetic, Underscore, Quote, White, Slash, Sign, Other}
 
@@ -41,3 +44,21 @@ pub data Run (test : ℕ → Bool) (text : List ℕ) : ℕ → ℕ → Type 0 wh
   over : {i : ℕ} → length text ≤ i → Run test text i i
   stop : {i : ℕ} → i < length text → test (getD text i 0) ≡ false → Run test text i i
   on : {i n : ℕ} → i < length text → test (getD text i 0) ≡ true → Run test text (i + 1) n → Run test text i n
+
+-- the reserved words as they are compared, the last first: those of the program's head, of plain statements, of statements that hold blocks, and of conditions
+abbrev pub headWords : List Word
+headWords = Word.String ∷ Word.Twoc ∷ Word.False ∷ Word.True ∷ Word.DecrOnZero ∷ Word.Alphabet ∷ []
+
+abbrev pub plainWords : List Word
+plainWords = Word.Reject ∷ Word.Accept ∷ Word.C ∷ Word.Goto ∷ Word.Move ∷ headWords
+
+abbrev pub blockWords : List Word
+blockWords = Word.Also ∷ Word.Branch ∷ Word.Choose ∷ Word.While ∷ Word.Else ∷ Word.If ∷ plainWords
+
+abbrev pub allWords : List Word
+allWords = Word.Rend ∷ Word.Lend ∷ Word.Read ∷ blockWords
+
+-- these bytes are none of these words
+abbrev pub NoneOf : List Word → List ℕ → Type 0
+NoneOf [] l = Unit {0}
+NoneOf (x ∷ xs) l = ¬ (name x ≡ reserved l) × NoneOf xs l
