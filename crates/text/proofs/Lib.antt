@@ -8,3 +8,4 @@ pub mod Tokens
 pub mod Rising
 pub mod Sorting
 pub mod Named
+pub mod Signed

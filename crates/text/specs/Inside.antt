@@ -2,15 +2,17 @@
 use Prim.Native.Nat.{ℕ, _+_, _≤_, _<_}
 use mathlib.Core.Path.{_≡_}
 use mathlib.Core.Bool.{Bool, true, false, not, _||_}
-use mathlib.Core.List.{List, [], _∷_}
+use mathlib.Core.List.{List, [], _∷_, List·Memᴰ}
 use lib.ListN.{length, getD}
 use lib.Dec.{eqb}
 use Rattle.bits.specs.Byte.{isDigit, isAlphabetic}
 use Rattle.text.specs.Token.{quote, signs}
 use Rattle.text.specs.Tokens.{isWhite, slash, lineFeed}
-use Rattle.text.specs.First.{reserved, name}
+use Rattle.text.specs.First.{reserved, name, written}
 use Rattle.text.specs.declared.Word.{Word}
 use Rattle.text.specs.declared.Word.the-variants as Word
+use Rattle.text.specs.declared.signs.Found.{Found}
+use Rattle.text.specs.declared.signs.Found.the-variants as Found
 use Rattle.text.specs.declared.kinds.Kind.{Kind}
 use Rattle.text.specs.declared.kinds.Kind.the-variants.{Digit, Alphabetic, Underscore, Quote, White, Slash, Sign, Other}
 
@@ -62,3 +64,8 @@ allWords = Word.Rend ∷ Word.Lend ∷ Word.Read ∷ blockWords
 abbrev pub NoneOf : List Word → List ℕ → Type 0
 NoneOf [] l = Unit {0}
 NoneOf (x ∷ xs) l = ¬ (name x ≡ reserved l) × NoneOf xs l
+
+-- these bytes are this sign, or no sign
+abbrev pub IsSign : List ℕ → Found → Type 0
+IsSign l (Found.Sign x) = l ≡ written x
+IsSign l Found.Nothing = ¬ List·Memᴰ l signs

@@ -1,6 +1,7 @@
 // The tokens of a text.
 mod ends;
 mod kinds;
+mod signs;
 mod words;
 
 // The reserved words, and Other for a word that is not reserved.
