@@ -2,6 +2,7 @@
 mod ends;
 mod kinds;
 mod signs;
+mod steps;
 mod words;
 
 // The reserved words, and Other for a word that is not reserved.
