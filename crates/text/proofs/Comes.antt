@@ -9,7 +9,9 @@ use Rattle.text.specs.Token as Spec
 use Rattle.text.specs.Tokens.{Placed, _at_, Ending, ends, broken, Tokens}
 use Rattle.text.specs.Tokens as Of
 use Rattle.text.specs.First.{Next, Begins, First}
-use Rattle.text.specs.Inside.{Skips}
+use Rattle.text.specs.Inside.{Skips, Steps}
+use Rattle.text.specs.declared.steps.Step.{Step}
+use Rattle.text.specs.declared.steps.Step.the-variants as Step
 use Rattle.text.specs.declared.Token.{Token}
 use Rattle.text.specs.declared.Token.the-variants as Token
 use Rattle.text.proofs.Scan.{scanFrom}
@@ -36,6 +38,13 @@ skips-first {text} {p} {n} s f =
       all = Of.blank (s .blank) (subst (λ (m : ℕ). Tokens m (drop n text) (f .tokens) (f .ending)) same (f .all));
       begins = f .begins;
     }
+
+-- what a step answers
+pub step-blank : (text : List ℕ) (p n : ℕ) {s : Step} → Steps text p s → s ≡ Step.Blank n → Skips text p n
+step-blank text p n h e = subst (Steps text p) e h
+
+pub step-token : (text : List ℕ) (p : ℕ) {r : Token} {s : Step} → Steps text p s → s ≡ Step.Token r → First text p r
+step-token text p h e = subst (Steps text p) e h
 
 bad-tokens : (p : ℕ) (bytes : List ℕ) → Bad bytes → Tokens p bytes [] (broken p)
 bad-tokens p [] h = absurd (h .some refl)
