@@ -6,3 +6,10 @@ pub mod Reach
 pub mod Front
 pub mod Tokens
 pub mod Rising
+pub mod Sorting
+pub mod Named
+pub mod Signed
+pub mod Comes
+pub mod Standing
+pub mod Once
+pub mod Follow
