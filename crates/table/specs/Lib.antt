@@ -3,4 +3,6 @@ pub mod Table
 pub mod Image
 pub mod WellFormed
 pub mod Refusal
+pub mod Fields
+pub mod RowCode
 pub mod Check
