@@ -1,2 +1,3 @@
--- Laws of what runs reach.
+-- Laws of cells, of a row's step and of what runs reach.
+pub mod Cells
 pub mod Run
