@@ -1,5 +1,6 @@
 // Bits of a slice of bytes, and counts of ones. Bit i is bit i mod 8, the least being 0, of byte i / 8.
 ghost use mathlib.Core.Path.{_≡_};
+ghost use Prim.Native.Nat.{_^_, _<_};
 ghost use lib.ListN.{getD, length, replicate};
 ghost use Rattle.bits.specs.Bit.{bit, withBit, withoutBit};
 ghost use Rattle.bits.specs.Ones.{Ones};
@@ -40,8 +41,9 @@ pub fn clear_bit(m: &mut [u8], i: usize)
     }
 }
 
-// How many bits are set.
+// How many bits are set. Of more bytes the number might not fit.
 pub fn count_ones(m: &[u8]) -> usize
+    requires { ⌜ length (now m) < 2 ^ 61 ⌝ }
     ensures { λ r. ⌜ Ones (now (m .entry)) r ⌝ }
 {
     let mut sum: usize = 0;
