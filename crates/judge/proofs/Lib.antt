@@ -1,5 +1,11 @@
--- Laws of numbered situations, of verdicts, counts and marks, and of judging.
+-- Laws of numbered situations, of verdicts, counts and marks, of the search and of judging.
 pub mod Number
 pub mod Verdict
 pub mod Marks
+pub mod Marking
+pub mod Rows
+pub mod Searching
+pub mod Left
+pub mod Counted
+pub mod Found
 pub mod Judges

@@ -1,3 +1,4 @@
 -- Laws of cells, of a row's step and of what runs reach.
 pub mod Cells
+pub mod Steps
 pub mod Run

@@ -2,4 +2,5 @@
 pub mod Cell
 pub mod Code
 pub mod Step
+pub mod Outcome
 pub mod Run

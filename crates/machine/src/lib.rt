@@ -55,3 +55,10 @@ fn at_most(n: usize, most: usize) -> usize
 {
     if n < most { n } else { most }
 }
+
+// What a row's step comes to: a cell and a counter, or the row can't be taken, or it would pass the limit.
+pub enum Outcome {
+    Goes { cell: usize, counter: usize },
+    Blocked,
+    OverLimit,
+}
