@@ -2,13 +2,18 @@
 use Prim.Native.Nat.{ℕ, _≤_, _<_}
 use native.Mathlib.Omega.{arith}
 use mathlib.Core.Path.{_≡_, refl, sym, ap, ap₂, _∙_}
-use mathlib.Core.Option.{Option·some-injective}
+use mathlib.Core.Bool.{Bool, true, false, cond, _&&_, true≢false}
+use mathlib.Core.Option.{Option, none, some, Option·some-injective, Option·none-ne-some}
 use mathlib.Core.List.{List}
+use native.Mathlib.Decide.{decLe}
+use lib.Dec.{leb, eqb}
+use borrow.Author.Tests.{le-leb, lt-leb, eq-eqb}
 use Rattle.table.specs.Table.{Row, Table}
-use Rattle.machine.specs.Step.{Situation, Takes}
+use Rattle.machine.specs.Cell.{symbolOn, moved}
+use Rattle.machine.specs.Step.{Situation, symbolFits, counterFits, changed, rowFits, Takes}
 use Rattle.machine.specs.declared.Outcome.{Outcome}
 use Rattle.machine.specs.declared.Outcome.the-variants.{Goes, Blocked, OverLimit}
-use Rattle.machine.specs.Outcome.{stepTo, OutcomeRight, Steps}
+use Rattle.machine.specs.Outcome.{stepFrom, stepTo, OutcomeRight, outcomeOf, Steps}
 
 module _ {t : Table} {w : List ℕ} {r : Row} {s : Situation} where
   -- a row takes a situation to one situation
@@ -40,3 +45,43 @@ module _ (t : Table) (w : List ℕ) (r : Row) (L : ℕ) (s : Situation) where
 -- a step comes to one outcome
 pub steps-once : {t : Table} {w : List ℕ} {r : Row} {L : ℕ} {s : Situation} {a b : Outcome} → Steps t w r L s a → Steps t w r L s b → a ≡ b
 steps-once {t} {w} {r} {L} {s} {a} {b} x y = right-once t w r L s a b (x .right) (y .right)
+
+module _ (t : Table) (w : List ℕ) (r : Row) (L cell counter : ℕ) where
+  -- a row that fits comes to what its change of the counter does
+  taken
+      : rowFits t w r (stepFrom r cell counter) ≡ true → (o : Option ℕ) → changed (t .stops) (r .change) counter ≡ o
+      → OutcomeRight t w r L (stepFrom r cell counter) (outcomeOf L (moved w (r .move) cell) o)
+  unfolding outcomeOf
+  taken fits none e = λ u takes. Option·none-ne-some (u .counter) (sym e ∙ takes .counter)
+  taken fits (some n) e = go (decLe n L)
+    where
+      takes : Takes t w r (stepFrom r cell counter) (stepTo r (moved w (r .move) cell) n)
+      takes = record { fits = fits; state = refl; cell = refl; counter = e }
+
+      go : Dec (n ≤ L) → OutcomeRight t w r L (stepFrom r cell counter) (cond (leb n L) (Goes (moved w (r .move) cell) n) OverLimit)
+      go (yes low) = rw (le-leb n L low) (takes, low)
+      go (no high) = rw (lt-leb n L (omega arith)) (stepTo r (moved w (r .move) cell) n, takes, omega arith)
+
+  -- both tests fit
+  pub steps-on
+      : symbolFits (t .alphabet) (r .symbol) (symbolOn w cell) ≡ true → counterFits (r .test) counter ≡ true
+      → (next : ℕ) (stops : Bool) (result : Outcome) → next ≡ moved w (r .move) cell → stops ≡ t .stops
+      → result ≡ outcomeOf L next (changed stops (r .change) counter) → Steps t w r L (stepFrom r cell counter) result
+  unfolding rowFits
+  steps-on symbol test next stops result there how is = rw (is, there, how) (record {
+    right = taken (rw (eq-eqb (r .from) (r .from) refl, symbol, test) refl) (changed (t .stops) (r .change) counter) refl;
+  })
+
+  -- one of them does not
+  blocked : ¬ (rowFits t w r (stepFrom r cell counter) ≡ true) → Steps t w r L (stepFrom r cell counter) Blocked
+  blocked other = record { right = λ u takes. other (takes .fits) }
+
+  pub blocked-symbol : symbolFits (t .alphabet) (r .symbol) (symbolOn w cell) ≡ false → Steps t w r L (stepFrom r cell counter) Blocked
+  unfolding rowFits
+  blocked-symbol other = blocked (λ fits. true≢false (sym fits ∙ rw (eq-eqb (r .from) (r .from) refl, other) refl))
+
+  pub blocked-test
+      : symbolFits (t .alphabet) (r .symbol) (symbolOn w cell) ≡ true → counterFits (r .test) counter ≡ false
+      → Steps t w r L (stepFrom r cell counter) Blocked
+  unfolding rowFits
+  blocked-test symbol other = blocked (λ fits. true≢false (sym fits ∙ rw (eq-eqb (r .from) (r .from) refl, symbol, other) refl))

@@ -1,6 +1,9 @@
 -- What a row's step comes to, from the row's own state and within a limit.
 use Prim.Native.Nat.{ℕ, _≤_, _<_}
+use mathlib.Core.Bool.{cond}
+use mathlib.Core.Option.{Option, none, some}
 use mathlib.Core.List.{List}
+use lib.Dec.{leb}
 use Rattle.table.specs.Table.{Row, Table}
 use Rattle.machine.specs.Step.{Situation, Takes}
 use Rattle.machine.specs.declared.Outcome.{Outcome}
@@ -20,3 +23,8 @@ OutcomeRight t word r limit s OverLimit = (u : Situation) × Takes t word r s u 
 
 pub record Steps (t : Table) (word : List ℕ) (r : Row) (limit : ℕ) (s : Situation) (outcome : Outcome) : Type 0 where
   pub right : OutcomeRight t word r limit s outcome
+
+-- what a change of the counter to this, or none, comes to on the way to a cell
+unfoldable pub outcomeOf : ℕ → ℕ → Option ℕ → Outcome
+outcomeOf limit cell none = Blocked
+outcomeOf limit cell (some counter) = cond (leb counter limit) (Goes cell counter) OverLimit
