@@ -2,6 +2,7 @@
 pub mod Number
 pub mod Verdict
 pub mod Marks
+pub mod Bytes
 pub mod Marking
 pub mod Rows
 pub mod Searching

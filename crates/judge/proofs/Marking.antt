@@ -18,9 +18,12 @@ pub marked-same : (m : List ℕ) (i : ℕ) → bit m i ≡ 1 → marked m i ≡ 
 unfolding marked
 marked-same m i one = rw (eq-eqb (bit m i) 1 one) refl
 
-pub marked-new : (m : List ℕ) (i : ℕ) → ¬ (bit m i ≡ 1) → marked m i ≡ withBit (withBit m i) (i + situations)
+marked-new : (m : List ℕ) (i : ℕ) → ¬ (bit m i ≡ 1) → marked m i ≡ withBit (withBit m i) (i + situations)
 unfolding marked
 marked-new m i zero = rw (ne-eqb (bit m i) 1 zero) refl
+
+pub marked-both : (m n l : List ℕ) (i : ℕ) → ¬ (bit m i ≡ 1) → n ≡ withBit m i → l ≡ withBit n (i + situations) → l ≡ marked m i
+marked-both m n l i zero one both = both ∙ ap (λ (k : List ℕ). withBit k (i + situations)) one ∙ sym (marked-new m i zero)
 
 -- a property of marks that both have
 marking : (P : List ℕ → Type 0) (m : List ℕ) (i : ℕ) → (bit m i ≡ 1 → P m) → (¬ (bit m i ≡ 1) → P (withBit (withBit m i) (i + situations))) → P (marked m i)

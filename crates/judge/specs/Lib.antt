@@ -3,3 +3,4 @@ pub mod Verdict
 pub mod Marks
 pub mod Search
 pub mod Judge
+pub mod Inner

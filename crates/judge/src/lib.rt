@@ -1,1 +1,2 @@
-// The search over the marks, the verdict and the count.
+// The judge.
+mod pending;
