@@ -114,7 +114,7 @@ picked-first m r room first =
     record {
       guess = record { high = omega (arith, first .high); set = λ l. rw back (first .set (omega (arith, first .low))) };
       none = λ l k low. elim (decLt k markBytes) [
-        yes inside ↦ first .none (omega (arith, first .low)) .zero k low inside
+        | yes inside ↦ first .none (omega (arith, first .low)) .zero k low inside
         | no past ↦ List·getD-eq-default m 0 (omega arith)
       ];
     }

@@ -27,9 +27,9 @@ module _ {A B : Type 0} (f : A → B) where
   map-once g (x ∷ l) back (Pairwise·cons apart once) =
       Pairwise·cons
       (λ y m e. ∥∥₁-elim m ⊥-prop (λ k.
-        let from = comes l k in
-        apart (from .source) ∣ from .member ∣₁
-        (sym (back x (List·Memᴰ·head refl)) ∙ ap g (e ∙ sym (from .image)) ∙ back (from .source) (List·Memᴰ·tail (from .member)))))
+      let from = comes l k in
+      apart (from .source) ∣ from .member ∣₁
+      (sym (back x (List·Memᴰ·head refl)) ∙ ap g (e ∙ sym (from .image)) ∙ back (from .source) (List·Memᴰ·tail (from .member)))))
       (map-once g l (λ z m. back z (List·Memᴰ·tail m)) once)
 
 -- as many things have Q as have P, where f and g lead from the one to the other and back

@@ -74,12 +74,14 @@ module _ (m : List ℕ) (i : ℕ) where
 pub left-falls : (m m′ : List ℕ) → Keeps m m′ → (i : ℕ) → i < situations → ¬ Followed m i → Followed m′ i → left m′ < left m
 unfolding left
 left-falls m m′ keeps i low before after =
-    omega
-    (arith, sum-rises (following m) (following m′) situations more i low (omega (arith, following-zero m i before, following-one m′ i after)),
-    sum-at-most (following m′) (following-small m′) situations)
+    omega (
+      arith,
+      sum-rises (following m) (following m′) situations more i low (omega (arith, following-zero m i before, following-one m′ i after)),
+      sum-at-most (following m′) (following-small m′) situations,
+    )
   where
     more : (j : ℕ) → j < situations → following m j ≤ following m′ j
     more j lowj = elim (followed-or-not m j) [
-      yes f ↦ omega (arith, following-small m j, following-one m′ j (keeps j lowj f))
+      | yes f ↦ omega (arith, following-small m j, following-one m′ j (keeps j lowj f))
       | no k ↦ omega (arith, following-zero m j k)
     ]

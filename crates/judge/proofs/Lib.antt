@@ -6,7 +6,9 @@ pub mod Bytes
 pub mod Marking
 pub mod Rows
 pub mod Searching
+pub mod Following
 pub mod Left
+pub mod Picking
 pub mod Counted
 pub mod Found
 pub mod Judges

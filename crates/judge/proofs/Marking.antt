@@ -78,7 +78,7 @@ module _ (m : List ℕ) (i : ℕ) where
                 reached = bit-set-other (withBit m i) (i + situations) j (omega arith) ∙ bit-set-other m i j other ∙ f .reached;
                 notPending =
                     bit-set-other (withBit m i) (i + situations) (j + situations) (λ e. other (omega arith))
-                    ∙ bit-set-other m i (j + situations) (omega arith) ∙ f .notPending
+                    ∙ bit-set-other m i (j + situations) (omega arith) ∙ f .notPending;
               }
 
       pub marked-followed-before : (j : ℕ) → j < situations → Followed (marked m i) j → Followed m j
@@ -92,5 +92,5 @@ module _ (m : List ℕ) (i : ℕ) where
                 reached = sym (bit-set-other m i j other) ∙ sym (bit-set-other (withBit m i) (i + situations) j (omega arith)) ∙ f .reached;
                 notPending =
                     sym (bit-set-other m i (j + situations) (omega arith))
-                    ∙ sym (bit-set-other (withBit m i) (i + situations) (j + situations) (λ e. other (omega arith))) ∙ f .notPending
+                    ∙ sym (bit-set-other (withBit m i) (i + situations) (j + situations) (λ e. other (omega arith))) ∙ f .notPending;
               }

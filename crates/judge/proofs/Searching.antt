@@ -110,7 +110,7 @@ module _ {image w : List ℕ} {L : ℕ} {m : List ℕ} {over : Bool} {current ne
   run-of : u .counter ≤ L → Reach (tableOf image) w L u
   run-of fine = goes (at .sound i low reached) step-of fine
 
-  mark-for : u .counter ≤ L → HasMark u
+  pub mark-for : u .counter ≤ L → HasMark u
   mark-for fine = reached-has-mark (at .ready .range) (at .ready .short) (at .ready .low) (run-of fine)
 
 module _ {image w : List ℕ} {L : ℕ} {m : List ℕ} {over : Bool} {current next : ℕ}
@@ -132,7 +132,7 @@ module _ {image w : List ℕ} {L : ℕ} {m : List ℕ} {over : Bool} {current ne
       (record {
         within = λ v takes′ fine′.
             subst (λ (x : Situation). bit (marked m (markOf u)) (markOf x) ≡ 1) (takes-once takes takes′) (marked-set m (markOf u) (mark-below has) (at .room));
-        above = λ v takes′ above. absurd (omega (arith, same-counter takes takes′))
+        above = λ v takes′ above. absurd (omega (arith, same-counter takes takes′));
       })
 
 -- the search begins with the start marked on empty marks
@@ -203,5 +203,5 @@ module _ {image w : List ℕ} {L : ℕ} {m : List ℕ} {over : Bool} (at : Betwe
             within = λ u takes fine.
                 let small = mark-below (mark-for at lowj (before .reached) few takes fine) in
                 unchanged (markOf u) (omega arith) ∙ was .within u takes fine;
-            above = was .above
+            above = was .above;
           }

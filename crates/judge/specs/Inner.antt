@@ -8,11 +8,11 @@ use Rattle.bits.specs.Bit.{bit}
 use Rattle.bits.specs.Size.{Size}
 use Rattle.table.specs.Table.{Accepting}
 use Rattle.table.specs.Refusal.{First, refusal}
-use Rattle.table.specs.Fields.{tableOf}
+use Rattle.table.specs.Fields.{tableOf, rowCount}
 use Rattle.machine.specs.Run.{Reach}
 use Rattle.judge.specs.Verdict.{Verdict, verdictNumber, IsVerdict}
-use Rattle.judge.specs.Marks.{firstHalf, Marks}
-use Rattle.judge.specs.Search.{situations, situationOf, Followed, Between, Keeps}
+use Rattle.judge.specs.Marks.{markBytes, firstHalf, Marks}
+use Rattle.judge.specs.Search.{situations, situationOf, Followed, Ready, Searching, Between, Keeps}
 use Rattle.judge.specs.Judge.{reasons, Judgeable}
 use Rattle.judge.specs.declared.pending.Try.{Try}
 use Rattle.judge.specs.declared.pending.Try.the-variants.{Found, Stale, Nothing}
@@ -44,11 +44,35 @@ pub record Picked (m : List ℕ) (r : ℕ) : Type 0 where
   pub guess : Guess m r
   pub none : situations ≤ r → (k : ℕ) → firstHalf ≤ k → getD m k 0 ≡ 0
 
--- a pending situation was followed
-pub record Expanded (image w : List ℕ) (L : ℕ) (i : ℕ) (m m′ : List ℕ) (over : Bool) : Type 0 where
+-- row r of situation i is to be followed
+pub record RowOpen (image w : List ℕ) (L : ℕ) (m : List ℕ) (over : Bool) (i r : ℕ) : Type 0 where
+  pub at : Searching image w L m over i r
+  pub low : i < situations
+  pub followed : Followed m i
+  pub few : r < rowCount image
+
+-- and was
+pub record RowFollowed (image w : List ℕ) (L : ℕ) (m m′ : List ℕ) (over : Bool) (i r : ℕ) : Type 0 where
+  pub at : Searching image w L m′ over i (r + 1)
+  pub keeps : Keeps m m′
+
+-- situation i is to be followed
+pub record Waiting (image w : List ℕ) (L : ℕ) (m : List ℕ) (over : Bool) (i : ℕ) : Type 0 where
+  pub between : Between image w L m over
+  pub low : i < situations
+  pub waits : bit m (i + situations) ≡ 1
+
+-- and was
+pub record Expanded (image w : List ℕ) (L : ℕ) (m m′ : List ℕ) (over : Bool) (i : ℕ) : Type 0 where
   pub between : Between image w L m′ over
   pub keeps : Keeps m m′
   pub done : Followed m′ i
+
+-- nothing is marked yet
+pub record Unmarked (image w : List ℕ) (L : ℕ) (m : List ℕ) : Type 0 where
+  pub ready : Ready image w L
+  pub room : length m ≡ markBytes
+  pub empty : (i : ℕ) → bit m i ≡ 0
 
 -- a state accepts, and a situation in it is marked
 pub record AcceptsIn (image m : List ℕ) (state : ℕ) : Type 0 where

@@ -1,6 +1,5 @@
 // A head on a word, as the word and a cell, and one row's step.
 use table::Row;
-
 ghost use mathlib.Core.Path.{_≡_};
 ghost use mathlib.Core.Bool.{_&&_};
 ghost use mathlib.Core.Option.{some};
@@ -146,7 +145,14 @@ fn raised(by: usize, counter: usize, cell: usize, limit: usize) -> Outcome
 }
 
 // One row's step from the state that it leaves, a cell and a counter, within a limit.
-pub fn step(image: &[u8], word: &[u8], row: Row, cell: usize, counter: usize, limit: usize) -> Outcome
+pub fn step(
+    image: &[u8],
+    word: &[u8],
+    row: Row,
+    cell: usize,
+    counter: usize,
+    limit: usize,
+) -> Outcome
     ensures { λ r. ⌜ Steps (tableOf (now (image .entry))) (now (word .entry)) (rowIs row) limit (stepFrom (rowIs row) cell counter) r ⌝ }
 {
     let seen = looked(word, cell);

@@ -27,7 +27,7 @@ rowFrom image at =
       test = byteAt image (at + 3);
       move = byteAt image (at + 4);
       change = byteAt image (at + 5);
-      to = twoAt image (at + 6)
+      to = twoAt image (at + 6);
     }
 
 -- row i of an image with so many letters
@@ -48,5 +48,5 @@ tableOf image =
       stops = eqb (byteAt image (lettersOf image + 10)) 1;
       states = twoAt image (lettersOf image + 14);
       accepting = take 16 (drop (lettersOf image + 19) image);
-      rows = rowsFrom image 0 (rowCount image)
+      rows = rowsFrom image 0 (rowCount image);
     }

@@ -13,7 +13,7 @@ raised-requires : tie.Need-raised-requires
 raised-requires c κs = search needs
 
 returns : tie.Need-returns
-returns c = 
+returns c =
     c .raised .ensures ∙ ap (outcomeOf _ _) (sym (changed-up _ _ _ _ (c .before .before .wide .ensures) (c .before .if1 .taken)))
 
 sub-down : tie.Need-sub-down
@@ -23,7 +23,7 @@ raised-requires-2 : tie.Need-raised-requires-2
 raised-requires-2 c κs = search needs
 
 returns-2 : tie.Need-returns-2
-returns-2 c = 
+returns-2 c =
     c .raised2 .ensures
     ∙ ap (outcomeOf _ _) (sym (changed-down _ _ _ _ (c .before .before .before .wide .ensures) (c .before .before .if1 .left) (c .before .if2 .taken)))
 

@@ -25,7 +25,7 @@ changed-requires : tie.Need-changed-requires
 changed-requires c κs = search needs
 
 returns : tie.Need-returns
-returns c = 
+returns c =
     let a = c .before .before .before .before .before in
     steps-on _ _ _ _ _ _
     (sym (ap (symbolFits _ _) (a .before .before .looked .ensures)) ∙ sym (a .before .symbol-fits .ensures) ∙ a .if1 .taken)
@@ -33,14 +33,14 @@ returns c =
     _ _ _ (c .before .before .moved .ensures) (c .before .stops .ensures) (c .changed .ensures)
 
 returns-2 : tie.Need-returns-2
-returns-2 c = 
+returns-2 c =
     let a = c .before .before in
     blocked-test _ _ _ _ _ _
     (sym (ap (symbolFits _ _) (a .before .before .looked .ensures)) ∙ sym (a .before .symbol-fits .ensures) ∙ a .if1 .taken)
     (sym (c .before .counter-fits .ensures) ∙ c .if2 .left)
 
 returns-3 : tie.Need-returns-3
-returns-3 c = 
+returns-3 c =
     blocked-symbol _ _ _ _ _ _
     (sym (ap (symbolFits _ _) (c .before .before .looked .ensures)) ∙ sym (c .before .symbol-fits .ensures) ∙ c .if1 .left)
 

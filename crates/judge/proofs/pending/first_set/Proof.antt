@@ -38,7 +38,7 @@ add-result : tie.Need-add-result Inv-loop μ-loop
 add-result c = omega arith
 
 returns-2 : tie.Need-returns-2 Inv-loop μ-loop
-returns-2 c = 
+returns-2 c =
     let l = c .before .before .before .before .loop .inv in
     first-here _ _ _ _ _ (l .0) (c .before .before .before .loop-test .taken) (c .lowest .ensures .0) (c .lowest .ensures .1)
 

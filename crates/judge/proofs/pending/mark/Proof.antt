@@ -30,7 +30,7 @@ same-length-2 : tie.Need-same-length-2
 same-length-2 c = search needs
 
 returns-2 : tie.Need-returns-2
-returns-2 c = 
+returns-2 c =
     let a = c .before .before .before .before in
     let b = a .before .before .before .before in
     marked-both _ _ _ _ (λ one. b .before .before .if1 .left (b .before .before .before .bit-at .ensures ∙ one)) (b .set-bit .ensures) (a .set-bit2 .ensures)
