@@ -1,0 +1,134 @@
+-- The fields of a table's image say what the table is, and stand where they should.
+use Prim.Native.Nat.{ℕ, _+_, _*_, _/_, _%_, _≤_, _<_}
+use native.Mathlib.Nat.{add-zero, add-assoc}
+use native.Mathlib.Omega.{arith}
+use mathlib.Core.Path.{_≡_, refl, sym, ap, subst, _∙_}
+use mathlib.Core.Bool.{Bool, true, false}
+use mathlib.Core.List.{List, [], _∷_, _++_, append-nil}
+use lib.ListN.{length, getD, take, drop}
+use lib.Dec.{eqb}
+use Rattle.table.specs.Table.{Row, Table}
+use Rattle.table.specs.Image.{twoBytes, field, rowsBytes, flag, edition, encode}
+use Rattle.table.specs.WellFormed.{IsImage, InRange, WellFormed}
+use Rattle.table.specs.Fields.{byteAt, twoAt, lettersOf, rowCount, rowsFrom, tableOf, FieldAt, HeadRight, MiddleRight, TailRight}
+use Rattle.table.proofs.Image.{length-rows, length-encode}
+use Rattle.table.proofs.Standing.{Stands, stands-field, stands-byte, stands-value, stands-after, stands-next}
+use Rattle.table.proofs.RowList.{rows-of-bytes}
+
+-- the byte of a flag tells it
+of-flag : (b : Bool) → eqb (flag b) 1 ≡ b
+unfolding flag
+of-flag true = refl
+of-flag false = refl
+
+flag-low : (b : Bool) → flag b ≤ 1
+unfolding flag
+flag-low true = omega arith
+flag-low false = omega arith
+
+-- the fields from tag 2, 3, 4, 5 and 6 on
+abbrev from6 : Table → List ℕ
+from6 t = field 6 (rowsBytes (t .rows)) ++ []
+
+abbrev from5 : Table → List ℕ
+from5 t = field 5 (t .accepting) ++ from6 t
+
+abbrev from4 : Table → List ℕ
+from4 t = field 4 (twoBytes (t .states)) ++ from5 t
+
+abbrev from3 : Table → List ℕ
+from3 t = field 3 (flag (t .stops) ∷ []) ++ from4 t
+
+abbrev from2 : Table → List ℕ
+from2 t = field 2 (t .alphabet) ++ from3 t
+
+encode-fields : (t : Table) → encode t ≡ field 1 (edition ∷ []) ++ from2 t
+unfolding encode
+encode-fields t = rw (append-nil (field 6 (rowsBytes (t .rows)))) refl
+
+module _ {t : Table} {image : List ℕ} (is : IsImage t image) where
+  first : Stands image 0 1 (edition ∷ []) (from2 t)
+  first = record { bytes = is .encoded ∙ encode-fields t }
+
+  second : Stands image 4 2 (t .alphabet) (from3 t)
+  second = stands-next first 4 refl
+
+  letters : lettersOf image ≡ length (t .alphabet)
+  letters = omega (arith, stands-field second .many, is .inRange .fewLetters)
+
+  third : Stands image (lettersOf image + 7) 3 (flag (t .stops) ∷ []) (from4 t)
+  third = stands-next second (lettersOf image + 7) (omega (arith, letters))
+
+  fourth : Stands image (lettersOf image + 11) 4 (twoBytes (t .states)) (from5 t)
+  unfolding twoBytes
+  fourth = stands-next third (lettersOf image + 11) (omega arith)
+
+  fifth : Stands image (lettersOf image + 16) 5 (t .accepting) (from6 t)
+  unfolding twoBytes
+  fifth = stands-next fourth (lettersOf image + 16) (omega arith)
+
+  sixth : Stands image (lettersOf image + 35) 6 (rowsBytes (t .rows)) []
+  sixth = stands-next fifth (lettersOf image + 35) (omega (arith, is .inRange .sixteen))
+
+  stops-byte : byteAt image (lettersOf image + 10) ≡ flag (t .stops)
+  stops-byte = stands-byte third (lettersOf image + 10) 0 (omega arith) (omega arith)
+
+  states-two : twoAt image (lettersOf image + 14) ≡ t .states
+  unfolding twoBytes
+  states-two = omega (arith, stands-byte fourth (lettersOf image + 14) 0 (omega arith) (omega arith), stands-byte fourth (lettersOf image + 14 + 1) 1 (omega arith) (omega arith))
+
+  rows-two : twoAt image (lettersOf image + 36) ≡ 8 * length (t .rows)
+  rows-two = ap (twoAt image) (sym (add-assoc (lettersOf image) 35 1)) ∙ stands-field sixth .many ∙ length-rows (t .rows)
+
+  rows-many : rowCount image ≡ length (t .rows)
+  rows-many = omega (arith, rows-two)
+
+  rows-same : rowsFrom image 0 (rowCount image) ≡ t .rows
+  rows-same =
+      let start : lettersOf image + 38 + 0 * 8 ≡ lettersOf image + 35 + 3 = omega arith in
+      rw rows-many (rows-of-bytes image 0 (t .rows) [] (stands-after sixth (lettersOf image + 38 + 0 * 8) start))
+
+  -- the fields of a table's image say the table
+  pub image-table : tableOf image ≡ t
+  unfolding tableOf
+  image-table = λ i. record {
+    alphabet = alphabet i;
+    stops = (ap (λ (b : ℕ). eqb b 1) stops-byte ∙ of-flag (t .stops)) i;
+    states = states-two i;
+    accepting = accepting i;
+    rows = rows-same i;
+  }
+    where
+      alphabet : take (lettersOf image) (drop 7 image) ≡ t .alphabet
+      alphabet = rw letters (stands-value second 7 refl)
+
+      accepting : take 16 (drop (lettersOf image + 19) image) ≡ t .accepting
+      accepting = rw (is .inRange .sixteen) at (stands-value fifth (lettersOf image + 19) (omega arith))
+
+  -- and stand where they should
+  pub image-head : HeadRight image
+  image-head = record {
+    first = stands-field first;
+    edition = stands-byte first 3 0 refl (omega arith);
+    second = rw letters (stands-field second);
+    someLetter = rw letters (is .inRange .someLetter);
+    fewLetters = rw letters (is .inRange .fewLetters);
+  }
+
+  pub image-middle : MiddleRight image
+  unfolding twoBytes
+  image-middle = record {
+    third = stands-field third;
+    flag = rw stops-byte (flag-low (t .stops));
+    fourth = stands-field fourth;
+    someState = rw states-two (is .inRange .someState);
+    fewStates = rw states-two (is .inRange .fewStates);
+  }
+
+  pub image-tail : TailRight image
+  image-tail = record {
+    fifth = rw (is .inRange .sixteen) at (stands-field fifth);
+    sixth = record { tag = stands-field sixth .tag; many = stands-field sixth .many ∙ length-rows (t .rows) ∙ omega (arith, rows-many) };
+    fewRows = rw rows-many (is .inRange .fewRows);
+    end = ap length (is .encoded) ∙ length-encode t ∙ omega (arith, letters, rows-many, is .inRange .sixteen);
+  }

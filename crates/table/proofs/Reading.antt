@@ -1,0 +1,106 @@
+-- What the readers of an image read: a byte of a part of it, a byte past its end, and a row.
+use Prim.Native.Nat.{ℕ, _+_, _*_, _/_, _%_, _^_, _≤_, _<_}
+use native.Mathlib.Nat.{add-comm}
+use native.Mathlib.Decide.{decLt}
+use native.Mathlib.Omega.{arith}
+use mathlib.Core.Path.{_≡_, refl, sym, ap, ap₂, _∙_}
+use mathlib.Core.List.{List}
+use lib.ListN.{length, getD, take, drop, length-take, length-drop, List·getD-eq-default}
+use lib.Dec.{eqb}
+use borrow.Author.Tests.{le-leb, lt-leb}
+use Rattle.bits.specs.Byte.{between}
+use mathlib.Core.Bool.{true, false}
+use lib.Seq.{length-take-le, getD-take, getD-drop}
+use Rattle.bits.specs.Bit.{bit, Bytes}
+use Rattle.bits.proofs.Change.{bit-past}
+use Rattle.table.specs.Table.{Row, Table}
+use Rattle.table.specs.Fields.{byteAt, twoAt, lettersOf, letterOf, rowFrom, rowOf, tableOf}
+use Rattle.table.specs.RowCode.{rowIs}
+use Rattle.table.specs.declared.Row as Code
+
+-- a byte inside a range, below it and above it
+pub range-inside : (low high b : ℕ) → low ≤ b → b ≤ high → between low high b ≡ true
+range-inside low high b above below = simp (le-leb low b above, le-leb b high below)
+
+pub range-below : (low high b : ℕ) → b < low → between low high b ≡ false
+range-below low high b below = simp (lt-leb low b below)
+
+pub range-above : (low high b : ℕ) → low ≤ b → high < b → between low high b ≡ false
+range-above low high b above over = simp (le-leb low b above, lt-leb b high over)
+
+-- a byte of a part
+part-inside : (l : List ℕ) (n m i : ℕ) → i < n → getD (take n (drop m l)) i 0 ≡ getD l (m + i) 0
+part-inside l n m i low = getD-take n (drop m l) i 0 low ∙ getD-drop m l i 0
+
+-- and past its end
+part-past : (l : List ℕ) (n m i : ℕ) → n ≤ i → getD (take n (drop m l)) i 0 ≡ 0
+part-past l n m i high = List·getD-eq-default (take n (drop m l)) 0 (omega (arith, length-take n (drop m l)))
+
+-- a part of bytes is bytes
+pub part-bytes : (l : List ℕ) (n m : ℕ) → Bytes l → Bytes (take n (drop m l))
+part-bytes l n m bytes i =
+    elim (decLt i n) [
+      | yes low ↦ rw (part-inside l n m i low) (bytes (m + i))
+      | no high ↦ omega (arith, part-past l n m i (omega arith))
+    ]
+
+module _ (image : List ℕ) where
+  -- the alphabet is as long as it says, if the image is long enough
+  pub alphabet-length : lettersOf image + 7 ≤ length image → length (tableOf image .alphabet) ≡ lettersOf image
+  unfolding tableOf
+  alphabet-length long = length-take-le (lettersOf image) (drop 7 image) (omega (arith, length-drop 7 image))
+
+  -- letter c
+  pub letter-inside : (c : ℕ) → c < lettersOf image → byteAt image (c + 7) ≡ letterOf image c
+  unfolding tableOf
+  letter-inside c low = ap (byteAt image) (add-comm c 7) ∙ sym (part-inside image (lettersOf image) 7 c low)
+
+  pub letter-past : (c : ℕ) → lettersOf image ≤ c → letterOf image c ≡ 0
+  unfolding tableOf
+  letter-past c high = part-past image (lettersOf image) 7 c high
+
+  -- the bit of state s
+  pub accept-inside
+      : (s : ℕ) → s < 128 → byteAt image (lettersOf image + 19 + s / 8) / 2 ^ (s % 8) % 2 ≡ bit (tableOf image .accepting) s
+  unfolding bit tableOf
+  accept-inside s low =
+      ap (λ (b : ℕ). b / 2 ^ (s % 8) % 2) (sym (part-inside image 16 (lettersOf image + 19) (s / 8) (omega arith)))
+
+  pub accept-past : (s : ℕ) → 128 ≤ s → bit (tableOf image .accepting) s ≡ 0
+  unfolding tableOf
+  accept-past s high =
+      bit-past (take 16 (drop (lettersOf image + 19) image)) s (omega (arith, length-take 16 (drop (lettersOf image + 19) image)))
+
+  -- a byte past the end is 0, and so is a row that starts there
+  pub byte-past : (at : ℕ) → length image ≤ at → byteAt image at ≡ 0
+  byte-past at past = List·getD-eq-default image 0 past
+
+  pub row-past : (i : ℕ) → length image / 8 ≤ i → rowOf image i ≡ record { from = 0; symbol = 0; test = 0; move = 0; change = 0; to = 0 }
+  unfolding rowFrom
+  row-past i past =
+      let at = lettersOf image + 38 + i * 8 in
+      let zero : (j : ℕ) → byteAt image (at + j) ≡ 0 = λ j. byte-past (at + j) (omega arith) in
+      let from : twoAt image at ≡ 0 = omega (arith, byte-past at (omega arith), zero 1) in
+      let to : twoAt image (at + 6) ≡ 0 = omega (arith, zero 6, byte-past (at + 6 + 1) (omega arith)) in
+      λ j. record { from = from j; symbol = zero 2 j; test = zero 3 j; move = zero 4 j; change = zero 5 j; to = to j }
+
+  -- the state that a row leaves
+  pub from-inside : (k i : ℕ) → k ≡ lettersOf image → twoAt image (k + 38 + i * 8) ≡ rowOf image i .from
+  unfolding rowFrom
+  from-inside k i e = ap (λ (n : ℕ). twoAt image (n + 38 + i * 8)) e
+
+  pub states-inside : (k : ℕ) → k ≡ lettersOf image → twoAt image (k + 14) ≡ tableOf image .states
+  unfolding tableOf
+  states-inside k e = ap (λ (n : ℕ). twoAt image (n + 14)) e
+
+  pub stops-inside : {b : ℕ} → b ≡ byteAt image (lettersOf image + 10) → eqb b 1 ≡ tableOf image .stops
+  unfolding tableOf
+  stops-inside e = ap (λ (b : ℕ). eqb b 1) e
+
+  -- a row of the code whose numbers stand here
+  pub row-is
+      : (at : ℕ) (r : Code.Row) → r .from ≡ twoAt image at → r .symbol ≡ byteAt image (at + 2) → r .test ≡ byteAt image (at + 3)
+      → r .motion ≡ byteAt image (at + 4) → r .change ≡ byteAt image (at + 5) → r .to ≡ twoAt image (at + 6) → rowIs r ≡ rowFrom image at
+  unfolding rowFrom
+  row-is at r from symbol test motion change to =
+      λ j. record { from = from j; symbol = symbol j; test = test j; move = motion j; change = change j; to = to j }

@@ -1,0 +1,127 @@
+-- The rows of an image: each by its number, and their bytes.
+use Prim.Native.Nat.{ℕ, zero, suc, _+_, _*_, _/_, _%_, _≤_, _<_}
+use native.Mathlib.Nat.{add-zero, add-assoc}
+use native.Mathlib.Decide.{ℕ-discrete}
+use native.Mathlib.Omega.{arith}
+use mathlib.Core.Path.{_≡_, refl, sym, ap, subst, _∙_}
+use mathlib.Core.List.{List, [], _∷_, _++_, append-assoc, List·Memᴰ, List·Memᴰ·head, List·Memᴰ·tail}
+use lib.ListN.{length, getD, drop}
+use lib.Seq.{drop-drop}
+use Rattle.bits.specs.Bit.{Bytes}
+use Rattle.table.specs.Table.{Row, Table}
+use Rattle.table.specs.Image.{twoBytes, rowBytes, rowsBytes}
+use Rattle.table.specs.Fields.{byteAt, twoAt, lettersOf, rowFrom, rowOf, rowsFrom, rowCount, tableOf}
+use Rattle.table.proofs.Standing.{byte-from, split-here}
+
+-- the row whose bytes stand here
+pub row-of-bytes : (image : List ℕ) (at : ℕ) (r : Row) (rest : List ℕ) → drop at image ≡ rowBytes r ++ rest → rowFrom image at ≡ r
+unfolding rowFrom rowBytes twoBytes
+row-of-bytes image at r rest e =
+    let here : (i : ℕ) → byteAt image (at + i) ≡ getD (rowBytes r ++ rest) i 0 = λ i. byte-from image at i ∙ ap (λ (l : List ℕ). getD l i 0) e in
+    let from : twoAt image at ≡ r .from = omega (arith, (rw add-zero at (here 0)), here 1) in
+    let to : twoAt image (at + 6) ≡ r .to = rw (add-assoc at 6 1) (omega (arith, here 6, here 7)) in
+    λ i. record { from = from i; symbol = here 2 i; test = here 3 i; move = here 4 i; change = here 5 i; to = to i }
+
+-- the bytes of the row that stands here
+pub bytes-of-row
+    : (image : List ℕ) (at : ℕ) → Bytes image → at + 8 ≤ length image
+    → drop at image ≡ rowBytes (rowFrom image at) ++ drop (at + 8) image
+unfolding rowFrom rowBytes twoBytes
+bytes-of-row image at bytes long =
+    let first : byteAt image (at + 0) ≡ twoAt image at / 256 = rw add-zero (omega (arith, bytes (at + 1))) in
+    let second : byteAt image (at + 1) ≡ twoAt image at % 256 = omega (arith, bytes (at + 1)) in
+    let seventh : byteAt image (at + 6) ≡ twoAt image (at + 6) / 256 = omega (arith, bytes (at + 6 + 1)) in
+    let eighth : byteAt image (at + 7) ≡ twoAt image (at + 6) % 256 =
+    ap (byteAt image) (sym (add-assoc at 6 1)) ∙ omega (arith, bytes (at + 6 + 1)) in
+    split-here image at 8 long
+    ∙ (λ i.
+    first i
+    ∷ second i
+    ∷ byteAt image (at + 2)
+    ∷ byteAt image (at + 3)
+    ∷ byteAt image (at + 4)
+    ∷ byteAt image (at + 5)
+    ∷ seventh i
+    ∷ eighth i
+    ∷ drop (at + 8) image)
+
+-- the bytes after a row's eight
+after-row : (r : Row) (rest : List ℕ) → drop 8 (rowBytes r ++ rest) ≡ rest
+unfolding rowBytes twoBytes
+after-row r rest = refl
+
+-- numbering of rows
+pub length-rowsFrom : (image : List ℕ) (i n : ℕ) → length (rowsFrom image i n) ≡ n
+unfolding rowsFrom
+length-rowsFrom image i zero = refl
+length-rowsFrom image i (suc n) = ap suc (length-rowsFrom image (suc i) n)
+
+row-in : (image : List ℕ) (i n j : ℕ) → i ≤ j → j < i + n → List·Memᴰ (rowOf image j) (rowsFrom image i n)
+unfolding rowsFrom
+row-in image i zero j low high = absurd (omega arith)
+row-in image i (suc n) j low high =
+    elim (ℕ-discrete j i) [
+      | yes e ↦ List·Memᴰ·head (ap (rowOf image) e)
+      | no other ↦ List·Memᴰ·tail (row-in image (suc i) n j (omega arith) (omega arith))
+    ]
+
+row-number : {r : Row} (image : List ℕ) (i n : ℕ) → List·Memᴰ r (rowsFrom image i n) → (j : ℕ) × (j < i + n) × (r ≡ rowOf image j)
+unfolding rowsFrom
+row-number image i (suc n) (List·Memᴰ·head e) = (i, omega arith, e)
+row-number image i (suc n) (List·Memᴰ·tail m) = let found = row-number image (suc i) n m in (found .0, omega (arith, found .1), found .2)
+
+row-nth : (image : List ℕ) (d : Row) (i n j : ℕ) → j < n → getD (rowsFrom image i n) j d ≡ rowOf image (i + j)
+unfolding rowsFrom
+row-nth image d i zero j low = absurd (omega arith)
+row-nth image d i (suc n) zero low = ap (rowOf image) (sym (add-zero i))
+row-nth image d i (suc n) (suc j) low =
+    let next : suc i + j ≡ i + suc j = omega arith in
+    row-nth image d (suc i) n j (omega arith) ∙ ap (rowOf image) next
+
+-- where the bytes of these rows stand, these are the rows
+pub rows-of-bytes
+    : (image : List ℕ) (i : ℕ) (rs : List Row) (rest : List ℕ) → drop (lettersOf image + 38 + i * 8) image ≡ rowsBytes rs ++ rest
+    → rowsFrom image i (length rs) ≡ rs
+unfolding rowsFrom rowsBytes
+rows-of-bytes image i [] rest e = refl
+rows-of-bytes image i (r ∷ rs) rest e =
+    let at = lettersOf image + 38 + i * 8 in
+    let both : drop at image ≡ rowBytes r ++ (rowsBytes rs ++ rest) = e ∙ append-assoc (rowBytes r) (rowsBytes rs) rest in
+    let next : at + 8 ≡ lettersOf image + 38 + suc i * 8 = omega arith in
+    let others : drop (at + 8) image ≡ rowsBytes rs ++ rest = sym (drop-drop 8 at image) ∙ ap (drop 8) both ∙ after-row r (rowsBytes rs ++ rest) in
+    λ j. row-of-bytes image at r (rowsBytes rs ++ rest) both j
+    ∷ rows-of-bytes image (suc i) rs rest (rw (← next) others) j
+
+-- the bytes of the rows that stand here
+pub bytes-of-rows
+    : (image : List ℕ) (i n : ℕ) → Bytes image → lettersOf image + 38 + (i + n) * 8 ≤ length image
+    → drop (lettersOf image + 38 + i * 8) image ≡ rowsBytes (rowsFrom image i n) ++ drop (lettersOf image + 38 + (i + n) * 8) image
+unfolding rowsFrom rowsBytes
+bytes-of-rows image i zero bytes long = rw add-zero refl
+bytes-of-rows image i (suc n) bytes long =
+    let at = lettersOf image + 38 + i * 8 in
+    let next : at + 8 ≡ lettersOf image + 38 + suc i * 8 = omega arith in
+    let end : suc i + n ≡ i + suc n = omega arith in
+    let others = bytes-of-rows image (suc i) n bytes (rw end long) in
+    bytes-of-row image at bytes (omega arith)
+    ∙ rw (next, others, end) (sym (append-assoc (rowBytes (rowOf image i)) (rowsBytes (rowsFrom image (suc i) n)) _))
+
+module _ (image : List ℕ) where
+  -- an image has as many rows as it says
+  pub rows-length : length (tableOf image .rows) ≡ rowCount image
+  unfolding tableOf
+  rows-length = length-rowsFrom image 0 (rowCount image)
+
+  -- row i is among the rows, at place i
+  pub rows-nth : (d : Row) (i : ℕ) → i < rowCount image → getD (tableOf image .rows) i d ≡ rowOf image i
+  unfolding tableOf
+  rows-nth d i low = row-nth image d 0 (rowCount image) i low ∙ ap (rowOf image) (omega arith)
+
+  pub rows-in : (i : ℕ) → i < rowCount image → List·Memᴰ (rowOf image i) (tableOf image .rows)
+  unfolding tableOf
+  rows-in i low = row-in image 0 (rowCount image) i (omega arith) (omega arith)
+
+  -- each of the rows has a number
+  pub rows-number : {r : Row} → List·Memᴰ r (tableOf image .rows) → (i : ℕ) × (i < rowCount image) × (r ≡ rowOf image i)
+  unfolding tableOf
+  rows-number m = let found = row-number image 0 (rowCount image) m in (found .0, omega (arith, found .1), found .2)

@@ -1,0 +1,50 @@
+-- When a test tells whether something holds.
+use Prim.Native.Nat.{ℕ, _≤_, _<_}
+use native.Mathlib.Nat.{lt-of-lt-of-le, not-le-of-lt}
+use mathlib.Core.Path.{_≡_, refl, sym, subst, _∙_}
+use mathlib.Core.Bool.{Bool, true, false, not, true≢false}
+use borrow.Author.Tests.{not-true, not-false, eqb-true, eqb-false, leb-true, leb-false, ltb-true, ltb-false}
+use lib.Dec.{T, eqb, leb, ltb}
+use Rattle.table.specs.Fields.{Tells}
+
+-- a result that is known
+pub tells-yes : {r : Bool} {P : Type 0} → r ≡ true → P → Tells r P
+tells-yes known p = record { holds = λ e. p; fails = λ e. absurd (true≢false (sym known ∙ e)) }
+
+pub tells-no : {r : Bool} {P : Type 0} → r ≡ false → ¬ P → Tells r P
+tells-no known n = record { holds = λ e. absurd (true≢false (sym e ∙ known)); fails = λ e. n }
+
+-- what tells the one tells the other, if each follows from the other
+pub tells-as : {r : Bool} {P Q : Type 0} → Tells r P → (P → Q) → (Q → P) → Tells r Q
+tells-as told there back = record { holds = λ e. there (told .holds e); fails = λ e q. told .fails e (back q) }
+
+-- a part that was asked, `if !part(..)`: where it fails the whole fails, and past that it holds
+pub refuted : {r : Bool} {P Q : Type 0} → Tells r P → not r ≡ true → (Q → P) → Tells false Q
+refuted {r} told failed part = tells-no refl (λ q. told .fails (not-true r failed) (part q))
+
+pub kept : {r : Bool} {P : Type 0} → Tells r P → not r ≡ false → P
+kept {r} told passed = told .holds (not-false r passed)
+
+-- a result that is a test
+pub tells-test : {r : Bool} (test : Bool) → r ≡ test → Tells r (T test)
+tells-test test same = record {
+  holds = λ e. subst T (sym (sym same ∙ e)) tt;
+  fails = λ e t. subst T (sym same ∙ e) t;
+}
+
+-- tests of numbers
+pub tells-eqb : (a b : ℕ) → Tells (eqb a b) (a ≡ b)
+tells-eqb a b = record { holds = eqb-true a b; fails = eqb-false a b }
+
+pub tells-leb : (a b : ℕ) → Tells (leb a b) (a ≤ b)
+tells-leb a b = record { holds = leb-true a b; fails = λ e l. not-le-of-lt (leb-false a b e) l }
+
+pub tells-ltb : (a b : ℕ) → Tells (ltb a b) (a < b)
+tells-ltb a b = record { holds = ltb-true a b; fails = λ e l. not-le-of-lt l (ltb-false a b e) }
+
+-- a loop that has passed all numbers below n, and one that stops at a number
+pub tells-all : {P : ℕ → Type 0} (n i : ℕ) → n ≤ i → ((j : ℕ) → j < i → P j) → Tells true ((j : ℕ) → j < n → P j)
+tells-all n i end passed = tells-yes refl (λ j low. passed j (lt-of-lt-of-le low end))
+
+pub tells-stop : {P : ℕ → Type 0} (n i : ℕ) → i < n → ¬ P i → Tells false ((j : ℕ) → j < n → P j)
+tells-stop n i low fails = tells-no refl (λ all. fails (all i low))
