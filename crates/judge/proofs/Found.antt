@@ -5,22 +5,24 @@ use native.Mathlib.Omega.{arith}
 use mathlib.Core.Path.{_≡_, refl, sym, ap, _∙_, subst}
 use mathlib.Core.Bool.{Bool, true, false, true≢false}
 use mathlib.Core.List.{List}
-use lib.ListN.{length, getD, take}
+use lib.ListN.{length, getD, take, replicate, length-replicate}
 use lib.Seq.{getD-take, length-take-le}
 use Rattle.bits.specs.Bit.{bit, Bytes}
 use Rattle.bits.specs.Size.{Size}
 use Rattle.bits.specs.Ones.{Ones}
-use Rattle.bits.proofs.Change.{bit-inside}
+use Rattle.bits.proofs.Change.{bit-inside, bit-zeros}
+use Rattle.bits.proofs.Size.{size-numbered}
 use Rattle.table.specs.Table.{Accepting}
+use Rattle.table.proofs.RowList.{rows-number}
 use Rattle.table.specs.Fields.{tableOf, rowOf, rowCount, Tells}
 use Rattle.machine.specs.Step.{Situation, Takes, Step}
 use Rattle.machine.specs.Run.{Reach, begins, goes, Accepts, Passes}
-use Rattle.judge.specs.Verdict.{Verdict, Yes, No, LimitMet, IsVerdict}
+use Rattle.judge.specs.Verdict.{Verdict, Yes, No, LimitMet, verdictNumber, IsVerdict}
 use Rattle.judge.specs.Marks.{markBytes, firstHalf, HasMark, markOf, Marks}
 use Rattle.judge.specs.Search.{situations, situationOf, Followed, Searched, MarkedAccepts}
+use Rattle.judge.specs.Inner.{verdictOf, Unmarked, Undecided, Decided}
 use Rattle.judge.proofs.Marks.{reached-has-mark, mark-below, mark-of, mark-at, marked}
 use Rattle.judge.proofs.Counted.{size-along}
-use Rattle.judge.proofs.Rows.{row-numbered}
 
 module _ {image w : List ℕ} {L : ℕ} {m : List ℕ} {over : Bool} (found : Searched image w L m over) where
   -- nothing is pending
@@ -36,9 +38,9 @@ module _ {image w : List ℕ} {L : ℕ} {m : List ℕ} {over : Bool} (found : Se
       → (u .counter ≤ L → bit m (markOf u) ≡ 1) × (L < u .counter → over ≡ true)
   row-of {s} {u} reached one step =
       let has = has-mark reached in
-      let number = row-numbered image (step .listed) in
+      let number = rows-number image (step .listed) in
       let done = found .between .followed (markOf s) (number .0) (mark-below has) (record { reached = one; notPending = none-pending (markOf s) }) (number .1) (λ e. absurd (omega (arith, mark-below has))) in
-      let takes : Takes (tableOf image) w (rowOf image (number .0)) (situationOf (markOf s)) u = rw (mark-of has, number .2) (step .takes) in
+      let takes : Takes (tableOf image) w (rowOf image (number .0)) (situationOf (markOf s)) u = rw (mark-of has, ← (number .2)) (step .takes) in
       (done .within u takes, done .above u takes)
 
   -- whatever is reached is marked
@@ -98,13 +100,7 @@ module _ {image w : List ℕ} {L : ℕ} {m : List ℕ} {over : Bool} (found : Se
       (λ s reached. mark-of (has-mark reached))
       (ones .size)
 
--- the verdict that the two questions give
-unfoldable pub verdictOf : Bool → Bool → Verdict
-verdictOf true over = Yes
-verdictOf false true = LimitMet
-verdictOf false false = No
-
--- is the verdict
+-- the two questions give the verdict
 pub found-verdict
     : {image w : List ℕ} {L : ℕ} {m : List ℕ} (yes over : Bool) → Tells yes (MarkedAccepts image m) → Searched image w L m over
     → IsVerdict (tableOf image) w L (verdictOf yes over)
@@ -113,3 +109,41 @@ found-verdict true over tells found = accepts-found found (tells .holds refl)
 found-verdict false true tells found = (λ a. tells .fails refl (found-accepts found a), found .between .passed refl)
 found-verdict false false tells found =
     (λ a. tells .fails refl (found-accepts found a), λ p. true≢false (sym (passes-noted found p)))
+
+-- marks that were cleared hold no bit
+pub cleared-unmarked
+    : {image w : List ℕ} {L : ℕ} {m m′ : List ℕ} → Undecided image w L m → m′ ≡ replicate (length m) 0 → Unmarked image w L m′
+cleared-unmarked {m = m} undecided cleared = rw cleared (record {
+  ready = undecided .ready;
+  room = length-replicate (length m) 0 ∙ undecided .room;
+  empty = bit-zeros (length m);
+})
+
+module _ {image w : List ℕ} {L : ℕ} {m : List ℕ} {over : Bool} (found : Searched image w L m over) where
+  -- the first half is as long as it should be
+  pub half-length : length (take firstHalf m) ≡ firstHalf
+  half-length = length-take-le firstHalf m (omega (arith, found .between .room))
+
+  -- its ones are no more than its bits
+  pub count-low : {c : ℕ} → Ones (take firstHalf m) c → c ≤ situations
+  count-low ones = size-numbered (ones .size) situations (λ i. i) (λ i one. (i, half-low found i one, refl))
+
+  -- the verdict, the count and the marks
+  pub found-decided
+      : {yes : Bool} {number count : ℕ} → Tells yes (MarkedAccepts image m) → Ones (take firstHalf m) count → Bytes m → number ≡ verdictNumber (verdictOf yes over)
+      → Decided image w L m (number * 1000000 + count)
+  found-decided {yes} {number} {count} tells ones bytes is = record {
+    verdict = verdictOf yes over;
+    many = count;
+    right = found-verdict yes over tells found;
+    count = found-count found ones;
+    marks = found-marks found bytes;
+    number = rw is refl;
+  }
+
+-- no verdict's number is above 3
+pub verdict-low : (v : Verdict) → verdictNumber v ≤ 3
+unfolding verdictNumber
+verdict-low Yes = omega arith
+verdict-low No = omega arith
+verdict-low LimitMet = omega arith

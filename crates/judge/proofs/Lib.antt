@@ -4,11 +4,12 @@ pub mod Verdict
 pub mod Marks
 pub mod Bytes
 pub mod Marking
-pub mod Rows
 pub mod Searching
 pub mod Following
 pub mod Left
 pub mod Picking
 pub mod Counted
 pub mod Found
+pub mod Answers
 pub mod Judges
+pub mod Refusing

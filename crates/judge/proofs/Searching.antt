@@ -10,6 +10,7 @@ use lib.ListN.{length, getD}
 use Rattle.bits.specs.Bit.{bit, withBit, withoutBit}
 use Rattle.bits.proofs.Change.{bit-cleared, bit-cleared-other, length-withoutBit}
 use Rattle.table.specs.Table.{Row, Table}
+use Rattle.table.proofs.RowList.{rows-in}
 use Rattle.table.specs.Fields.{tableOf, rowOf, rowCount}
 use Rattle.machine.specs.Step.{Situation, Takes, Step}
 use Rattle.machine.specs.Run.{Reach, begins, goes, Passes}
@@ -19,7 +20,6 @@ use Rattle.judge.specs.Marks.{markBytes, HasMark, markOf}
 use Rattle.judge.specs.Search.{situations, situationOf, marked, Followed, RowDone, Ready, Searching, Between, Keeps}
 use Rattle.judge.proofs.Marks.{reached-has-mark, mark-below, mark-of}
 use Rattle.judge.proofs.Marking.{length-marked, marked-kept, marked-only, marked-only-pending, marked-set, marked-followed, marked-followed-before}
-use Rattle.judge.proofs.Rows.{row-listed}
 
 -- a row that is done with stays so while marks are added
 done-kept
@@ -104,7 +104,7 @@ module _ {image w : List ℕ} {L : ℕ} {m : List ℕ} {over : Bool} {current ne
     {u : Situation} (takes : Takes (tableOf image) w (rowOf image n) (situationOf i) u) where
   -- a row that is taken is a step
   step-of : Step (tableOf image) w (situationOf i) u
-  step-of = record { row = rowOf image n; listed = row-listed image n few; takes = takes }
+  step-of = record { row = rowOf image n; listed = rows-in image n few; takes = takes }
 
   -- what it leads to within the limit is reached, and has a mark
   run-of : u .counter ≤ L → Reach (tableOf image) w L u

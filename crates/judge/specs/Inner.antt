@@ -1,7 +1,7 @@
 -- What the judge's own functions promise one another.
 use Prim.Native.Nat.{ℕ, _+_, _*_, _≤_, _<_}
 use mathlib.Core.Path.{_≡_}
-use mathlib.Core.Bool.{Bool}
+use mathlib.Core.Bool.{Bool, true, false}
 use mathlib.Core.List.{List, List·Memᴰ}
 use lib.ListN.{length, getD}
 use Rattle.bits.specs.Bit.{bit}
@@ -10,7 +10,7 @@ use Rattle.table.specs.Table.{Accepting}
 use Rattle.table.specs.Refusal.{First, refusal}
 use Rattle.table.specs.Fields.{tableOf, rowCount}
 use Rattle.machine.specs.Run.{Reach}
-use Rattle.judge.specs.Verdict.{Verdict, verdictNumber, IsVerdict}
+use Rattle.judge.specs.Verdict.{Verdict, Yes, No, LimitMet, verdictNumber, IsVerdict}
 use Rattle.judge.specs.Marks.{markBytes, firstHalf, Marks}
 use Rattle.judge.specs.Search.{situations, situationOf, Followed, Ready, Searching, Between, Keeps}
 use Rattle.judge.specs.Judge.{reasons, Judgeable}
@@ -82,7 +82,18 @@ pub record AcceptsIn (image m : List ℕ) (state : ℕ) : Type 0 where
   pub set : bit m mark ≡ 1
   pub accepting : Accepting (tableOf image) state
 
--- the answer on what is judged
+-- the verdict that the two questions give: whether a run accepts, and whether one meets the limit
+unfoldable pub verdictOf : Bool → Bool → Verdict
+verdictOf true over = Yes
+verdictOf false true = LimitMet
+verdictOf false false = No
+
+-- what is judged
+pub record Undecided (image w : List ℕ) (L : ℕ) (m : List ℕ) : Type 0 where
+  pub ready : Ready image w L
+  pub room : length m ≡ markBytes
+
+-- the answer on it
 pub record Decided (image w : List ℕ) (L : ℕ) (m : List ℕ) (r : ℕ) : Type 0 where
   pub verdict : Verdict
   pub many : ℕ
