@@ -9,7 +9,7 @@ use mathlib.Core.List.{List, _∷_, _++_, List·Memᴰ}
 use Rattle.table.specs.Table.{Row}
 use Rattle.machine.specs.Cell.{Symbol, symbolOn, last, moved}
 use Rattle.machine.specs.Step.{Situation, symbolFits, counterFits, changed, Takes}
-use Rattle.machine.proofs.Fits.{row-fits}
+use Rattle.machine.proofs.RowFits.{row-fits}
 use Rattle.rule.specs.Tree.{
   Atom,
   Condition,

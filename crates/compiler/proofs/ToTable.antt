@@ -9,7 +9,7 @@ use Rattle.table.specs.Table.{Row, Accepting}
 use Rattle.machine.specs.Cell.{symbolOn, last}
 use Rattle.machine.specs.Step.{symbolFits, counterFits, Takes}
 use Rattle.machine.specs.Run.{Reach, begins, goes, Accepts}
-use Rattle.machine.proofs.Fits.{any-fits, either-fits, fits-row}
+use Rattle.machine.proofs.RowFits.{any-fits, either-fits, fits-row}
 use Rattle.rule.specs.Tree.{
   Condition,
   atom,

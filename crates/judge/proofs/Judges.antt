@@ -7,17 +7,19 @@ use Rattle.bits.specs.Size.{Size}
 use Rattle.bits.proofs.Size.{size-once}
 use Rattle.table.specs.Table.{Table}
 use Rattle.table.specs.WellFormed.{IsImage}
+use Rattle.table.specs.Fields.{tableOf}
 use Rattle.table.proofs.Image.{table-once}
 use Rattle.table.proofs.Refusal.{Single, Gives, Each, single-because, single-at-zero, first-once, first-has}
 use Rattle.machine.specs.Run.{Reach}
 use Rattle.judge.specs.Verdict.{Verdict, IsVerdict}
 use Rattle.judge.specs.Marks.{Marks}
 use Rattle.judge.specs.Judge.{FirstOutside, reasons, Judgeable, Answer, judged, refused, answerNumber, Judged, Refused, AnswerRight, Judges}
+use Rattle.judge.specs.Inner.{RefusedAs, Undecided, Decided}
 use Rattle.judge.proofs.Verdict.{verdict-once, verdict-never-zero}
 use Rattle.judge.proofs.Marks.{marks-once}
 
 -- a letter of the one table of an image is a letter of the other
-same-letters
+pub same-letters
     : {image : List ℕ} {t u : Table} {x : ℕ} → IsImage t image → IsImage u image → List·Memᴰ x (t .alphabet) → List·Memᴰ x (u .alphabet)
 same-letters {x = x} a b = subst (λ (t : Table). List·Memᴰ x (t .alphabet)) (table-once a b)
 
@@ -105,3 +107,37 @@ pub judges-never-zero
     : {image word : List ℕ} {limit : ℕ} {before after : List ℕ} {r : ℕ} → Judges image word limit before after r → 1 ≤ r
 judges-never-zero {image} {word} {limit} {before} {after} a =
     rw (a .number) (answer-never-zero image word limit before after (a .answer) (a .right))
+
+module _ {image word : List ℕ} {limit : ℕ} {before after : List ℕ} where
+  -- a refusal is a right answer, where the marks are as they were
+  pub judges-refused : {r : ℕ} → RefusedAs image word limit before r → after ≡ before → Judges image word limit before after r
+  unfolding answerNumber
+  judges-refused {r} refused′ same = record {
+    answer = refused (refused′ .number) (refused′ .place);
+    right = record { first = refused′ .first; unchanged = same };
+    number = refused′ .is;
+  }
+
+  -- and so is a verdict with its count
+  pub judges-decided
+      : {r : ℕ} → Judgeable (tableOf image) image word limit before → Decided image word limit after r → Judges image word limit before after r
+  unfolding answerNumber
+  judges-decided {r} judgeable decided = record {
+    answer = judged (decided .verdict) (decided .many);
+    right = record {
+      table = tableOf image;
+      judgeable = judgeable;
+      verdict = decided .right;
+      count = decided .count;
+      marks = decided .marks;
+    };
+    number = decided .number;
+  }
+
+-- what is judged is what is searched
+pub judgeable-undecided
+    : {image word : List ℕ} {limit : ℕ} {before : List ℕ} → Judgeable (tableOf image) image word limit before → Undecided image word limit before
+judgeable-undecided j = record {
+  ready = record { range = j .isImage .inRange; short = j .short; low = j .low };
+  room = j .room;
+}

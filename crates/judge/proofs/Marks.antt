@@ -15,7 +15,7 @@ use Rattle.machine.specs.Step.{Situation}
 use Rattle.machine.specs.Run.{Reach}
 use Rattle.machine.proofs.Run.{reach-within}
 use Rattle.judge.specs.Marks.{HasMark, markOf, Marks}
-use Rattle.judge.proofs.Number.{Among, situationAt, at-number, at-among, number-at}
+use Rattle.judge.proofs.Number.{Among, situationAt, number-below, at-number, at-among, number-at}
 
 -- two bits of which each is 1 where the other is are equal
 same-bit : {a b : ℕ} → a < 2 → b < 2 → (a ≡ 1) ↔ (b ≡ 1) → a ≡ b
@@ -31,13 +31,13 @@ abbrev situations : ℕ
 situations = 128 * 64 * 32
 
 -- the situation of each bit below has a bit
-marked : {i : ℕ} → i < situations → HasMark (situationAt 64 32 i)
+pub marked : {i : ℕ} → i < situations → HasMark (situationAt 64 32 i)
 marked low =
     let among = at-among {a = 128} {b = 64} {c = 32} (omega arith) (omega arith) low in
     record { state = among .state; cell = among .cell; counter = among .counter }
 
 -- and its bit is that one
-mark-at : (i : ℕ) → markOf (situationAt 64 32 i) ≡ i
+pub mark-at : (i : ℕ) → markOf (situationAt 64 32 i) ≡ i
 unfolding markOf
 mark-at i = number-at 64 32 i
 
@@ -49,6 +49,16 @@ has-among h = record { state = h .state; cell = h .cell; counter = h .counter }
 pub mark-once : {s u : Situation} → HasMark s → HasMark u → markOf s ≡ markOf u → s ≡ u
 unfolding markOf
 mark-once h k e = sym (at-number (has-among h)) ∙ ap (situationAt 64 32) e ∙ at-number (has-among k)
+
+-- a situation's bit is among the first
+pub mark-below : {s : Situation} → HasMark s → markOf s < situations
+unfolding markOf
+mark-below h = number-below (has-among h)
+
+-- and the situation of that bit is it
+pub mark-of : {s : Situation} → HasMark s → situationAt 64 32 (markOf s) ≡ s
+unfolding markOf
+mark-of h = at-number (has-among h)
 
 module _ {t : Table} {w : List ℕ} {L : ℕ} where
   -- what is reached on a word of up to 62 letters at a limit up to 31 has a bit

@@ -1,4 +1,6 @@
 -- What a verdict, its count and its marks are, and what judging promises.
 pub mod Verdict
 pub mod Marks
+pub mod Search
 pub mod Judge
+pub mod Inner

@@ -1,3 +1,6 @@
--- Laws of what runs reach, and of rows that fit.
-pub mod Run
+-- Laws of cells, of rows that fit, of a row's step and of what runs reach.
+pub mod Cells
 pub mod Fits
+pub mod RowFits
+pub mod Steps
+pub mod Run

@@ -1,1 +1,167 @@
-// A head on a word, one row's step, and the runs of a table.
+// A head on a word, as the word and a cell, and one row's step.
+use table::Row;
+ghost use mathlib.Core.Path.{_≡_};
+ghost use mathlib.Core.Bool.{_&&_};
+ghost use mathlib.Core.Option.{some};
+ghost use Prim.Native.Nat.{_+_, min};
+ghost use lib.ListN.{length, getD};
+ghost use lib.Dec.{ltb, eqb};
+ghost use Rattle.table.specs.Fields.{tableOf};
+ghost use Rattle.table.specs.RowCode.{rowIs};
+ghost use Rattle.machine.specs.Cell.{symbolOn, moved};
+ghost use Rattle.machine.specs.Code.{symbolIs};
+ghost use Rattle.machine.specs.Step.{symbolFits, counterFits, changed};
+ghost use Rattle.machine.specs.Outcome.{stepFrom, outcomeOf, Steps};
+
+pub enum Symbol {
+    LeftMark,
+    Letter(u8),
+    RightMark,
+}
+
+// What a row's step comes to: a cell and a counter, or the row can't be taken, or it would pass the limit.
+pub enum Outcome {
+    Goes { cell: usize, counter: usize },
+    Blocked,
+    OverLimit,
+}
+
+fn wide(code: u8) -> usize
+    ensures { λ r. ⌜ r ≡ code ⌝ }
+{
+    code as usize
+}
+
+fn at_most(n: usize, most: usize) -> usize
+    ensures { λ r. ⌜ r ≡ min n most ⌝ }
+{
+    if n < most { n } else { most }
+}
+
+// What stands on a cell; a cell past the right mark's is taken as that.
+pub fn looked(word: &[u8], cell: usize) -> Symbol
+    ensures { λ r. ⌜ symbolIs r ≡ symbolOn (now (word .entry)) cell ⌝ }
+{
+    if cell == 0 {
+        return Symbol::LeftMark;
+    }
+    let i = cell - 1;
+    if i < word.len() {
+        Symbol::Letter(word[i])
+    } else {
+        Symbol::RightMark
+    }
+}
+
+// Where a row's move leads from a cell.
+pub fn moved(word: &[u8], code: u8, cell: usize) -> usize
+    ensures { λ r. ⌜ r ≡ moved (now (word .entry)) code cell ⌝ }
+{
+    let end = word.len() + 1;
+    if code == 0 {
+        return 0;
+    }
+    if code == 128 {
+        return end;
+    }
+    let from = at_most(cell, end);
+    let sum = from + wide(code);
+    if sum <= 64 {
+        return 0;
+    }
+    at_most(sum - 64, end)
+}
+
+// Whether a row's symbol is a letter of the alphabet, and this one.
+fn letter_fits(image: &[u8], code: u8, b: u8) -> bool
+    ensures { λ r. ⌜ r ≡ (ltb code (length (tableOf (now (image .entry)) .alphabet)) && eqb (getD (tableOf (now (image .entry)) .alphabet) code 0) b) ⌝ }
+{
+    let at = wide(code);
+    if table::letter_count(image) <= at {
+        return false;
+    }
+    if image.len() <= at + 7 {
+        return false;
+    }
+    table::letter_at(image, at) == b
+}
+
+// Whether a row's symbol is what stands on a cell.
+fn symbol_fits(image: &[u8], code: u8, seen: Symbol) -> bool
+    ensures { λ r. ⌜ r ≡ symbolFits (tableOf (now (image .entry)) .alphabet) code (symbolIs seen) ⌝ }
+{
+    if code == 18 {
+        return true;
+    }
+    match seen {
+        Symbol::LeftMark => code == 16,
+        Symbol::Letter(b) => letter_fits(image, code, b),
+        Symbol::RightMark => code == 17,
+    }
+}
+
+// Whether a row's test fits the counter.
+fn counter_fits(test: u8, counter: usize) -> bool
+    ensures { λ r. ⌜ r ≡ counterFits test counter ⌝ }
+{
+    if test == 2 {
+        return true;
+    }
+    if counter == 0 { test == 0 } else { test == 1 }
+}
+
+// A change of the counter by code - 31, within a limit, on the way to a cell.
+fn changed(stops: bool, code: u8, counter: usize, cell: usize, limit: usize) -> Outcome
+    ensures { λ r. ⌜ r ≡ outcomeOf limit cell (changed stops code counter) ⌝ }
+{
+    let by = wide(code);
+    if 31 <= by {
+        return raised(by - 31, counter, cell, limit);
+    }
+    let down = 31 - by;
+    if down <= counter {
+        return raised(0, counter - down, cell, limit);
+    }
+    if stops {
+        Outcome::Goes { cell, counter: 0 }
+    } else {
+        Outcome::Blocked
+    }
+}
+
+fn raised(by: usize, counter: usize, cell: usize, limit: usize) -> Outcome
+    ensures { λ r. ⌜ r ≡ outcomeOf limit cell (some (counter + by)) ⌝ }
+{
+    if limit < by {
+        return Outcome::OverLimit;
+    }
+    if limit - by < counter {
+        return Outcome::OverLimit;
+    }
+    Outcome::Goes {
+        cell,
+        counter: counter + by,
+    }
+}
+
+// One row's step from the state that it leaves, a cell and a counter, within a limit.
+pub fn step(
+    image: &[u8],
+    word: &[u8],
+    row: Row,
+    cell: usize,
+    counter: usize,
+    limit: usize,
+) -> Outcome
+    ensures { λ r. ⌜ Steps (tableOf (now (image .entry))) (now (word .entry)) (rowIs row) limit (stepFrom (rowIs row) cell counter) r ⌝ }
+{
+    let seen = looked(word, cell);
+    if symbol_fits(image, row.symbol, seen) {
+        if counter_fits(row.test, counter) {
+            let next = moved(word, row.motion, cell);
+            let stops = table::stops(image);
+            return changed(stops, row.change, counter, next, limit);
+        }
+    }
+    Outcome::Blocked
+}

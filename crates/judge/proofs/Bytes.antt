@@ -1,0 +1,126 @@
+-- Bytes that are all 0, and the lowest bit of one that is not.
+use Prim.Native.Nat.{ℕ, zero, suc, _+_, _-_, _*_, _/_, _%_, _^_, _≤_, _<_, suc-le-suc, zero-le}
+use native.Mathlib.Nat.{pow-suc, mod-lt, zero-lt-suc, le-refl}
+use native.Mathlib.Decide.{decLt}
+use native.Mathlib.Omega.{arith}
+use native.Mathlib.Numerals.{one-add}
+use mathlib.Core.Path.{_≡_, refl, sym, ap, _∙_, subst}
+use mathlib.Core.List.{List}
+use lib.ListN.{length, getD, List·getD-eq-default}
+use lib.Bits.{bitOr, bitAnd, or-add-and, and-le-l, and-le-r, or-zero-l}
+use lib.Count.{trailingZeros, under, trailing-le}
+use mir.Syntax.{w64}
+use mir.Val.{Fits}
+use lib.Pow.{shr-shr}
+use lib.Dec.{eqb}
+use borrow.Author.Count.{below-more}
+use borrow.Author.Tests.{eqb-true, eqb-false}
+use Rattle.bits.specs.Bit.{bit}
+use Rattle.bits.proofs.Bits.{bit-of-byte}
+use Rattle.table.specs.Fields.{Tells}
+use Rattle.judge.specs.Marks.{markBytes, firstHalf}
+use Rattle.judge.specs.Search.{situations}
+use Rattle.judge.specs.Inner.{Quiet, FirstSet, Guess, TryRight, Picked}
+use Rattle.judge.specs.declared.pending.Try.{Try}
+use Rattle.judge.specs.declared.pending.Try.the-variants.{Found}
+
+-- half a number has the digits after the first
+half-digits : (n j : ℕ) → n / 2 / 2 ^ j ≡ n / 2 ^ suc j
+half-digits n j = shr-shr n 1 j ∙ rw one-add
+
+-- the lowest digit of a number that is set
+pub record Lowest (k n place : ℕ) : Type 0 where
+  pub low : place < k
+  pub set : n / 2 ^ place % 2 ≡ 1
+
+lowest-from : (d k n t : ℕ) → n % 2 ≡ d → n < 2 ^ suc k → 0 < n → (0 < n / 2 → Lowest k (n / 2) t) → Lowest (suc k) n (under d t)
+lowest-from zero k n t even low some rest =
+    let half = rest (omega arith) in
+    record { low = suc-le-suc (half .low); set = rw (← half-digits n t) (half .set) }
+lowest-from (suc d) k n t odd low some rest = record { low = zero-lt-suc k; set = omega arith }
+
+pub lowest-set : (k n : ℕ) → n < 2 ^ k → 0 < n → Lowest k n (trailingZeros k n)
+unfolding trailingZeros
+lowest-set zero n low some = absurd (omega arith)
+lowest-set (suc k) n low some =
+    lowest-from (n % 2) k n (trailingZeros k (n / 2)) refl low some (λ more. lowest-set k (n / 2) (omega (arith, pow-suc 2 k)) more)
+
+-- a place fits a word
+pub trailing-fits : (n : ℕ) → Fits w64 (trailingZeros 64 n)
+trailing-fits n = omega (arith, trailing-le 64 n)
+
+-- two numbers that are 0 together
+or-zero : (a b : ℕ) → bitOr a b ≡ 0 → (a ≡ 0) × (b ≡ 0)
+or-zero a b none = omega (arith, or-add-and a b, and-le-l a b, and-le-r a b)
+
+-- no byte, and one more
+pub quiet-none : (m : List ℕ) (from : ℕ) → Quiet m from from
+quiet-none m from = record { zero = λ k low high. absurd (omega arith) }
+
+pub quiet-more : (m : List ℕ) (from at : ℕ) → Quiet m from at → getD m at 0 ≡ 0 → Quiet m from (at + 1)
+quiet-more m from at quiet none = record {
+  zero = λ k low high. below-more (λ i. from ≤ i → getD m i 0 ≡ 0) at (λ i high′ low′. quiet .zero i low′ high′) (λ low′. none) k high low;
+}
+
+-- the bytes passed are all 0 exactly if what was gathered of them is
+pub record Gathered (m : List ℕ) (from at all : ℕ) : Type 0 where
+  pub quiet : all ≡ 0 → Quiet m from at
+  pub none : Quiet m from at → all ≡ 0
+
+pub gathered-none : (m : List ℕ) (from : ℕ) → Gathered m from from 0
+gathered-none m from = record { quiet = λ e. quiet-none m from; none = λ q. refl }
+
+pub gathered-more : (m : List ℕ) (from at all : ℕ) → from ≤ at → Gathered m from at all → Gathered m from (at + 1) (bitOr all (getD m at 0))
+gathered-more m from at all ahead g = record {
+  quiet = λ e. let both = or-zero all (getD m at 0) e in quiet-more m from at (g .quiet (both .0)) (both .1);
+  none = λ q. rw (g .none (record { zero = λ k low high. q .zero k low (omega arith) }), q .zero at ahead (omega arith)) refl;
+}
+
+-- so whether that is 0 tells whether they are
+pub gathered-all : (m : List ℕ) (from at to all : ℕ) → at ≡ to → Gathered m from at all → Tells (eqb all 0) (Quiet m from to)
+gathered-all m from at to all end g = record {
+  holds = λ e. subst (Quiet m from) end (g .quiet (eqb-true all 0 e));
+  fails = λ e q. eqb-false all 0 e (g .none (subst (Quiet m from) (sym end) q));
+}
+
+-- the first bit that is set stands in the first byte that is not 0
+pub first-here
+    : (m : List ℕ) (from at to place : ℕ) → from ≤ at → at < to → place < 8 → getD m at 0 / 2 ^ place % 2 ≡ 1 → FirstSet m from to (at * 8 + place)
+first-here m from at to place ahead inside low set = record {
+  low = omega arith;
+  high = omega arith;
+  set = λ l. bit-of-byte m at place low ∙ set;
+  none = λ l. absurd (omega arith);
+}
+
+pub first-nowhere : (m : List ℕ) (from at to : ℕ) → from ≤ to → at ≡ to → Quiet m from at → FirstSet m from to (to * 8)
+first-nowhere m from at to ahead end quiet = record {
+  low = omega arith;
+  high = omega arith;
+  set = λ l. absurd (omega arith);
+  none = λ l. subst (Quiet m from) end quiet;
+}
+
+-- a bit of the second half that is set is a pending situation's
+pub guess-found : (m : List ℕ) (r : ℕ) → situations ≤ r → r < situations + situations → bit m r ≡ 1 → Guess m (r - situations)
+guess-found m r low high set =
+    let back : r - situations + situations ≡ r = omega arith in
+    record { high = omega arith; set = λ l. rw back set }
+
+-- and the first that is set in the whole half, if any
+pub picked-first : (m : List ℕ) (r : ℕ) → length m ≡ markBytes → FirstSet m firstHalf markBytes r → Picked m (r - situations)
+picked-first m r room first =
+    let back : r - situations + situations ≡ r = omega (arith, first .low) in
+    record {
+      guess = record { high = omega (arith, first .high); set = λ l. rw back (first .set (omega (arith, first .low))) };
+      none = λ l k low. elim (decLt k markBytes) [
+        | yes inside ↦ first .none (omega (arith, first .low)) .zero k low inside
+        | no past ↦ List·getD-eq-default m 0 (omega arith)
+      ];
+    }
+
+-- what a hint led to is such a situation
+pub guess-tried : (m : List ℕ) {try : Try} {i : ℕ} → try ≡ Found i → TryRight m try → Guess m i
+guess-tried m is right =
+    let found = subst (TryRight m) is right in
+    record { high = omega (arith, found .0); set = λ l. found .1 }

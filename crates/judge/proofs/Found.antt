@@ -1,0 +1,149 @@
+-- What a search that is over has found: the marks, the verdict and the count.
+use Prim.Native.Nat.{ℕ, _+_, _*_, _/_, _%_, _≤_, _<_}
+use native.Mathlib.Nat.{zero-div}
+use native.Mathlib.Omega.{arith}
+use mathlib.Core.Path.{_≡_, refl, sym, ap, _∙_, subst}
+use mathlib.Core.Bool.{Bool, true, false, true≢false}
+use mathlib.Core.List.{List}
+use lib.ListN.{length, getD, take, replicate, length-replicate}
+use lib.Seq.{getD-take, length-take-le}
+use Rattle.bits.specs.Bit.{bit, Bytes}
+use Rattle.bits.specs.Size.{Size}
+use Rattle.bits.specs.Ones.{Ones}
+use Rattle.bits.proofs.Change.{bit-inside, bit-zeros}
+use Rattle.bits.proofs.Size.{size-numbered}
+use Rattle.table.specs.Table.{Accepting}
+use Rattle.table.proofs.RowList.{rows-number}
+use Rattle.table.specs.Fields.{tableOf, rowOf, rowCount, Tells}
+use Rattle.machine.specs.Step.{Situation, Takes, Step}
+use Rattle.machine.specs.Run.{Reach, begins, goes, Accepts, Passes}
+use Rattle.judge.specs.Verdict.{Verdict, Yes, No, LimitMet, verdictNumber, IsVerdict}
+use Rattle.judge.specs.Marks.{markBytes, firstHalf, HasMark, markOf, Marks}
+use Rattle.judge.specs.Search.{situations, situationOf, Followed, Searched, MarkedAccepts}
+use Rattle.judge.specs.Inner.{verdictOf, Unmarked, Undecided, Decided}
+use Rattle.judge.proofs.Marks.{reached-has-mark, mark-below, mark-of, mark-at, marked}
+use Rattle.judge.proofs.Counted.{size-along}
+
+module _ {image w : List ℕ} {L : ℕ} {m : List ℕ} {over : Bool} (found : Searched image w L m over) where
+  -- nothing is pending
+  none-pending : (i : ℕ) → bit m (i + situations) ≡ 0
+  unfolding bit
+  none-pending i = rw (found .rest ((i + situations) / 8) (omega arith), zero-div) refl
+
+  has-mark : {s : Situation} → Reach (tableOf image) w L s → HasMark s
+  has-mark = reached-has-mark (found .between .ready .range) (found .between .ready .short) (found .between .ready .low)
+
+  -- every row of a reached situation is done with
+  row-of : {s u : Situation} → Reach (tableOf image) w L s → bit m (markOf s) ≡ 1 → Step (tableOf image) w s u
+      → (u .counter ≤ L → bit m (markOf u) ≡ 1) × (L < u .counter → over ≡ true)
+  row-of {s} {u} reached one step =
+      let has = has-mark reached in
+      let number = rows-number image (step .listed) in
+      let done = found .between .followed (markOf s) (number .0) (mark-below has) (record { reached = one; notPending = none-pending (markOf s) }) (number .1) (λ e. absurd (omega (arith, mark-below has))) in
+      let takes : Takes (tableOf image) w (rowOf image (number .0)) (situationOf (markOf s)) u = rw (mark-of has, ← (number .2)) (step .takes) in
+      (done .within u takes, done .above u takes)
+
+  -- whatever is reached is marked
+  pub reached-marked : {s : Situation} → Reach (tableOf image) w L s → bit m (markOf s) ≡ 1
+  unfolding markOf
+  reached-marked begins = found .between .begun
+  reached-marked (goes before step low) = row-of before (reached-marked before) step .0 low
+
+  -- and whatever is marked is reached
+  pub marked-reached : (s : Situation) → HasMark s → bit m (markOf s) ≡ 1 → Reach (tableOf image) w L s
+  marked-reached s has one = subst (Reach (tableOf image) w L) (mark-of has) (found .between .sound (markOf s) (mark-below has) one)
+
+  -- so these are the marks
+  pub found-marks : Bytes m → Marks (tableOf image) w L m
+  found-marks bytes = record {
+    size = found .between .room;
+    bytes = bytes;
+    reached = λ s has. (marked-reached s has, reached-marked);
+    rest = found .rest;
+  }
+
+  -- a step above the limit was noted
+  passes-noted : Passes (tableOf image) w L → over ≡ true
+  passes-noted p = row-of (p .reached) (reached-marked (p .reached)) (p .step) .1 (p .above)
+
+  -- a marked situation that accepts is a run that does
+  accepts-found : MarkedAccepts image m → Accepts (tableOf image) w L
+  accepts-found a = record {
+    situation = situationOf (a .mark);
+    reached = found .between .sound (a .mark) (a .low) (a .set);
+    accepting = a .accepting;
+  }
+
+  found-accepts : Accepts (tableOf image) w L → MarkedAccepts image m
+  found-accepts a = let has = has-mark (a .reached) in record {
+    mark = markOf (a .situation);
+    low = mark-below has;
+    set = reached-marked (a .reached);
+    accepting = subst (λ (s : Situation). Accepting (tableOf image) (s .state)) (sym (mark-of has)) (a .accepting);
+  }
+
+  -- the bits of the first half
+  half-bit : (i : ℕ) → i < situations → bit (take firstHalf m) i ≡ bit m i
+  unfolding bit
+  half-bit i low = rw (getD-take firstHalf m (i / 8) 0 (omega arith)) refl
+
+  half-low : (i : ℕ) → bit (take firstHalf m) i ≡ 1 → i < situations
+  half-low i one = omega (arith, bit-inside (take firstHalf m) i one, length-take-le firstHalf m (omega (arith, found .between .room)))
+
+  -- its ones are as many as what is reached
+  pub found-count : {c : ℕ} → Ones (take firstHalf m) c → Size (Reach (tableOf image) w L) c
+  found-count ones =
+      size-along situationOf markOf
+      (λ i one. found .between .sound i (half-low i one) (sym (half-bit i (half-low i one)) ∙ one))
+      (λ s reached. half-bit (markOf s) (mark-below (has-mark reached)) ∙ reached-marked reached)
+      (λ i one. mark-at i)
+      (λ s reached. mark-of (has-mark reached))
+      (ones .size)
+
+-- the two questions give the verdict
+pub found-verdict
+    : {image w : List ℕ} {L : ℕ} {m : List ℕ} (yes over : Bool) → Tells yes (MarkedAccepts image m) → Searched image w L m over
+    → IsVerdict (tableOf image) w L (verdictOf yes over)
+unfolding verdictOf
+found-verdict true over tells found = accepts-found found (tells .holds refl)
+found-verdict false true tells found = (λ a. tells .fails refl (found-accepts found a), found .between .passed refl)
+found-verdict false false tells found =
+    (λ a. tells .fails refl (found-accepts found a), λ p. true≢false (sym (passes-noted found p)))
+
+-- marks that were cleared hold no bit
+pub cleared-unmarked
+    : {image w : List ℕ} {L : ℕ} {m m′ : List ℕ} → Undecided image w L m → m′ ≡ replicate (length m) 0 → Unmarked image w L m′
+cleared-unmarked {m = m} undecided cleared = rw cleared (record {
+  ready = undecided .ready;
+  room = length-replicate (length m) 0 ∙ undecided .room;
+  empty = bit-zeros (length m);
+})
+
+module _ {image w : List ℕ} {L : ℕ} {m : List ℕ} {over : Bool} (found : Searched image w L m over) where
+  -- the first half is as long as it should be
+  pub half-length : length (take firstHalf m) ≡ firstHalf
+  half-length = length-take-le firstHalf m (omega (arith, found .between .room))
+
+  -- its ones are no more than its bits
+  pub count-low : {c : ℕ} → Ones (take firstHalf m) c → c ≤ situations
+  count-low ones = size-numbered (ones .size) situations (λ i. i) (λ i one. (i, half-low found i one, refl))
+
+  -- the verdict, the count and the marks
+  pub found-decided
+      : {yes : Bool} {number count : ℕ} → Tells yes (MarkedAccepts image m) → Ones (take firstHalf m) count → Bytes m → number ≡ verdictNumber (verdictOf yes over)
+      → Decided image w L m (number * 1000000 + count)
+  found-decided {yes} {number} {count} tells ones bytes is = record {
+    verdict = verdictOf yes over;
+    many = count;
+    right = found-verdict yes over tells found;
+    count = found-count found ones;
+    marks = found-marks found bytes;
+    number = rw is refl;
+  }
+
+-- no verdict's number is above 3
+pub verdict-low : (v : Verdict) → verdictNumber v ≤ 3
+unfolding verdictNumber
+verdict-low Yes = omega arith
+verdict-low No = omega arith
+verdict-low LimitMet = omega arith

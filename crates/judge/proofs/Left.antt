@@ -1,0 +1,87 @@
+-- How many situations are not followed yet: the search ends because this falls.
+use Prim.Native.Nat.{ℕ, zero, suc, _+_, _-_, _≤_, _<_, zero-le}
+use native.Mathlib.Nat.{le-refl, eq-or-lt-of-le, le-of-suc-le-suc}
+use native.Mathlib.Decide.{ℕ-discrete}
+use native.Mathlib.Omega.{arith}
+use mathlib.Core.Path.{_≡_, sym, subst}
+use mathlib.Core.Logic.{⊎-elim}
+use mathlib.Core.List.{List}
+use Rattle.bits.specs.Bit.{bit}
+use Rattle.bits.proofs.Bits.{bit-zero-or-one}
+use Rattle.judge.specs.Search.{situations, Followed, Keeps}
+
+-- the sum of a function over the numbers below n
+sum : (ℕ → ℕ) → ℕ → ℕ
+sum f zero = 0
+sum f (suc n) = f n + sum f n
+
+-- it is at most n, where the function is at most 1
+sum-at-most : (f : ℕ → ℕ) → ((j : ℕ) → f j ≤ 1) → (n : ℕ) → sum f n ≤ n
+unfolding sum
+sum-at-most f one zero = zero-le
+sum-at-most f one (suc n) = omega (arith, one n, sum-at-most f one n)
+
+-- it does not fall with the function
+sum-grows : (f g : ℕ → ℕ) (n : ℕ) → ((j : ℕ) → j < n → f j ≤ g j) → sum f n ≤ sum g n
+unfolding sum
+sum-grows f g zero more = zero-le
+sum-grows f g (suc n) more = omega (arith, more n (le-refl (suc n)), sum-grows f g n (λ j l. more j (omega arith)))
+
+-- and rises where the function rises somewhere
+sum-rises : (f g : ℕ → ℕ) (n : ℕ) → ((j : ℕ) → j < n → f j ≤ g j) → (i : ℕ) → i < n → f i < g i → sum f n < sum g n
+unfolding sum
+sum-rises f g zero more i low rise = absurd (omega arith)
+sum-rises f g (suc n) more i low rise =
+    ⊎-elim
+    (λ (e : i ≡ n). omega (arith, subst (λ (k : ℕ). f k < g k) e rise, sum-grows f g n (λ j l. more j (omega arith))))
+    (λ (l : i < n). omega (arith, more n (le-refl (suc n)), sum-rises f g n (λ j l′. more j (omega arith)) i l rise))
+    (eq-or-lt-of-le (le-of-suc-le-suc low))
+
+-- 1 if situation i is followed, else 0
+following : List ℕ → ℕ → ℕ
+following m i = bit m i - bit m (i + situations)
+
+pub left : List ℕ → ℕ
+left m = situations - sum (following m) situations
+
+module _ (m : List ℕ) (i : ℕ) where
+  following-one : Followed m i → following m i ≡ 1
+  unfolding following
+  following-one f = omega (arith, f .reached, f .notPending)
+
+  following-small : following m i ≤ 1
+  unfolding following
+  following-small = omega (arith, bit-zero-or-one m i)
+
+  following-zero : ¬ Followed m i → following m i ≡ 0
+  unfolding following
+  following-zero other = go (ℕ-discrete (bit m i) 1) (ℕ-discrete (bit m (i + situations)) 0)
+    where
+      go : Dec (bit m i ≡ 1) → Dec (bit m (i + situations) ≡ 0) → bit m i - bit m (i + situations) ≡ 0
+      go (yes one) (yes none) = absurd (other (record { reached = one; notPending = none }))
+      go (yes one) (no k) = omega (arith, bit-zero-or-one m i)
+      go (no k) z = omega (arith, bit-zero-or-one m i)
+
+  followed-or-not : Dec (Followed m i)
+  followed-or-not = go (ℕ-discrete (bit m i) 1) (ℕ-discrete (bit m (i + situations)) 0)
+    where
+      go : Dec (bit m i ≡ 1) → Dec (bit m (i + situations) ≡ 0) → Dec (Followed m i)
+      go (yes one) (yes none) = yes (record { reached = one; notPending = none })
+      go (yes one) (no k) = no (λ f. k (f .notPending))
+      go (no k) z = no (λ f. k (f .reached))
+
+-- where what is followed stays followed and one more situation is, fewer are left
+pub left-falls : (m m′ : List ℕ) → Keeps m m′ → (i : ℕ) → i < situations → ¬ Followed m i → Followed m′ i → left m′ < left m
+unfolding left
+left-falls m m′ keeps i low before after =
+    omega (
+      arith,
+      sum-rises (following m) (following m′) situations more i low (omega (arith, following-zero m i before, following-one m′ i after)),
+      sum-at-most (following m′) (following-small m′) situations,
+    )
+  where
+    more : (j : ℕ) → j < situations → following m j ≤ following m′ j
+    more j lowj = elim (followed-or-not m j) [
+      | yes f ↦ omega (arith, following-small m j, following-one m′ j (keeps j lowj f))
+      | no k ↦ omega (arith, following-zero m j k)
+    ]

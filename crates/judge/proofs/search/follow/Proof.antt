@@ -1,0 +1,96 @@
+-- `judge::search::follow` meets its contract: each outcome of the row's step does to the search what its law says.
+use borrow.Author.Needs.{needs}
+use Prim.Native.Nat.{_+_, _*_, _<_}
+use Rattle.judge.specs.Search.{situations}
+use native.Mathlib.Omega.{arith}
+use Rattle.judge.proofs.Following.{followed-other, followed-blocked, followed-above, goes-below, followed-goes}
+use Rattle.judge.proofs.search.follow.Statement.{statement}
+use Rattle.judge.proofs.search.follow.Tie as tie
+
+row-from-requires : tie.Need-row-from-requires
+row-from-requires c κs = search needs
+
+returns : tie.Need-returns
+returns c = followed-other (c .before .before .before .before .before .pre) _ (c .before .row-from .ensures) (c .if1 .taken)
+
+row-at-requires : tie.Need-row-at-requires
+row-at-requires c κs = search needs
+
+step-requires : tie.Need-step-requires
+step-requires c κs = search needs
+
+enum-known-outcome : tie.Need-enum-known-outcome
+enum-known-outcome c = search needs
+
+-- the mark that is set is a situation's
+below
+    : (c : tie.After-known-told)
+    → (c .before .before .before .before .row-at .result .to * 64 + c .before .outcome .given .0 .0) * 32 + c .before .outcome .given .0 .1 .0 < situations
+below c =
+    let a = c .before .before .before .before .before in
+    goes-below (a .before .before .before .before .before .pre) _ (a .before .row-from .ensures) (a .if1 .left) _ (c .before .before .before .before .row-at .ensures) _
+    (c .before .before .before .step .ensures) _ _ (c .before .outcome .given .1)
+
+mul-mark : tie.Need-mul-mark
+mul-mark c = omega (arith, below c)
+
+add-mark : tie.Need-add-mark
+add-mark c = omega (arith, below c)
+
+mul-mark-2 : tie.Need-mul-mark-2
+mul-mark-2 c = omega (arith, below c)
+
+add-mark-2 : tie.Need-add-mark-2
+add-mark-2 c = omega (arith, below c)
+
+mark-requires : tie.Need-mark-requires
+mark-requires c κs = below (c .before .before)
+
+enum-told : tie.Need-enum-told
+enum-told c = search needs
+
+enum-told-2 : tie.Need-enum-told-2
+enum-told-2 c = search needs
+
+same-length : tie.Need-same-length
+same-length c = search needs
+
+returns-2 : tie.Need-returns-2
+returns-2 c =
+    let b = c .before .before .before .before .before .before in
+    let a = b .before .before .before .before in
+    followed-goes (a .before .before .before .before .before .pre) _ (a .before .row-from .ensures) (a .if1 .left) _ (b .before .before .before .row-at .ensures) _
+    (b .before .before .step .ensures) _ _ (b .outcome .given .1) _ (c .before .before .mark .ensures)
+
+returns-3 : tie.Need-returns-3
+returns-3 c =
+    let a = c .before .before .before .before in
+    followed-blocked (a .before .before .before .before .before .pre) _ (a .before .row-from .ensures) (a .if1 .left) _ (c .before .before .before .row-at .ensures) _
+    (c .before .before .step .ensures) (c .enum-told .given .1)
+
+returns-4 : tie.Need-returns-4
+returns-4 c =
+    let a = c .before .before .before .before in
+    followed-above (a .before .before .before .before .before .pre) _ (a .before .row-from .ensures) (a .if1 .left) _ (c .before .before .before .row-at .ensures) _
+    (c .before .before .step .ensures) (c .enum-told2 .given .1)
+
+pub follow-spec : {M : Type 1} → statement M
+follow-spec =
+    tie.close
+    (tie.spec
+    row-from-requires
+    returns
+    row-at-requires
+    step-requires
+    enum-known-outcome
+    mul-mark
+    add-mark
+    mul-mark-2
+    add-mark-2
+    mark-requires
+    enum-told
+    enum-told-2
+    same-length
+    returns-2
+    returns-3
+    returns-4)

@@ -1,0 +1,121 @@
+-- What the judge's own functions promise one another.
+use Prim.Native.Nat.{ℕ, _+_, _*_, _≤_, _<_}
+use mathlib.Core.Path.{_≡_}
+use mathlib.Core.Bool.{Bool, true, false}
+use mathlib.Core.List.{List, List·Memᴰ}
+use lib.ListN.{length, getD}
+use Rattle.bits.specs.Bit.{bit}
+use Rattle.bits.specs.Size.{Size}
+use Rattle.table.specs.Table.{Accepting}
+use Rattle.table.specs.Refusal.{First, refusal}
+use Rattle.table.specs.Fields.{tableOf, rowCount}
+use Rattle.machine.specs.Run.{Reach}
+use Rattle.judge.specs.Verdict.{Verdict, Yes, No, LimitMet, verdictNumber, IsVerdict}
+use Rattle.judge.specs.Marks.{markBytes, firstHalf, Marks}
+use Rattle.judge.specs.Search.{situations, situationOf, Followed, Ready, Searching, Between, Keeps}
+use Rattle.judge.specs.Judge.{reasons, Judgeable}
+use Rattle.judge.specs.declared.pending.Try.{Try}
+use Rattle.judge.specs.declared.pending.Try.the-variants.{Found, Stale, Nothing}
+
+-- the bytes from one place up to another are all 0
+pub record Quiet (m : List ℕ) (from to : ℕ) : Type 0 where
+  pub zero : (k : ℕ) → from ≤ k → k < to → getD m k 0 ≡ 0
+
+-- the first bit that is set in the bytes from one place up to another, or the bit after them
+pub record FirstSet (m : List ℕ) (from to r : ℕ) : Type 0 where
+  pub low : from * 8 ≤ r
+  pub high : r ≤ to * 8
+  pub set : r < to * 8 → bit m r ≡ 1
+  pub none : to * 8 ≤ r → Quiet m from to
+
+-- a guess at a pending situation: one, or the number of situations
+pub record Guess (m : List ℕ) (r : ℕ) : Type 0 where
+  pub high : r ≤ situations
+  pub set : r < situations → bit m (r + situations) ≡ 1
+
+-- what following a hint comes to
+abbrev pub TryRight : List ℕ → Try → Type 0
+TryRight m (Found i) = (i < situations) × (bit m (i + situations) ≡ 1)
+TryRight m Stale = Unit {0}
+TryRight m Nothing = Unit {0}
+
+-- a pending situation, or the number of situations where none is
+pub record Picked (m : List ℕ) (r : ℕ) : Type 0 where
+  pub guess : Guess m r
+  pub none : situations ≤ r → (k : ℕ) → firstHalf ≤ k → getD m k 0 ≡ 0
+
+-- row r of situation i is to be followed
+pub record RowOpen (image w : List ℕ) (L : ℕ) (m : List ℕ) (over : Bool) (i r : ℕ) : Type 0 where
+  pub at : Searching image w L m over i r
+  pub low : i < situations
+  pub followed : Followed m i
+  pub few : r < rowCount image
+
+-- and was
+pub record RowFollowed (image w : List ℕ) (L : ℕ) (m m′ : List ℕ) (over : Bool) (i r : ℕ) : Type 0 where
+  pub at : Searching image w L m′ over i (r + 1)
+  pub keeps : Keeps m m′
+
+-- situation i is to be followed
+pub record Waiting (image w : List ℕ) (L : ℕ) (m : List ℕ) (over : Bool) (i : ℕ) : Type 0 where
+  pub between : Between image w L m over
+  pub low : i < situations
+  pub waits : bit m (i + situations) ≡ 1
+
+-- and was
+pub record Expanded (image w : List ℕ) (L : ℕ) (m m′ : List ℕ) (over : Bool) (i : ℕ) : Type 0 where
+  pub between : Between image w L m′ over
+  pub keeps : Keeps m m′
+  pub done : Followed m′ i
+
+-- nothing is marked yet
+pub record Unmarked (image w : List ℕ) (L : ℕ) (m : List ℕ) : Type 0 where
+  pub ready : Ready image w L
+  pub room : length m ≡ markBytes
+  pub empty : (i : ℕ) → bit m i ≡ 0
+
+-- a state accepts, and a situation in it is marked
+pub record AcceptsIn (image m : List ℕ) (state : ℕ) : Type 0 where
+  pub mark : ℕ
+  pub low : mark < situations
+  pub here : situationOf mark .state ≡ state
+  pub set : bit m mark ≡ 1
+  pub accepting : Accepting (tableOf image) state
+
+-- the verdict that the two questions give: whether a run accepts, and whether one meets the limit
+unfoldable pub verdictOf : Bool → Bool → Verdict
+verdictOf true over = Yes
+verdictOf false true = LimitMet
+verdictOf false false = No
+
+-- what is judged
+pub record Undecided (image w : List ℕ) (L : ℕ) (m : List ℕ) : Type 0 where
+  pub ready : Ready image w L
+  pub room : length m ≡ markBytes
+
+-- the answer on it
+pub record Decided (image w : List ℕ) (L : ℕ) (m : List ℕ) (r : ℕ) : Type 0 where
+  pub verdict : Verdict
+  pub many : ℕ
+  pub right : IsVerdict (tableOf image) w L verdict
+  pub count : Size (Reach (tableOf image) w L) many
+  pub marks : Marks (tableOf image) w L m
+  pub number : r ≡ verdictNumber verdict * 1000000 + many
+
+-- the index of the first byte that is no letter, or the word's length
+pub record FirstOther (image w : List ℕ) (r : ℕ) : Type 0 where
+  pub high : r ≤ length w
+  pub before : (i : ℕ) → i < r → List·Memᴰ (getD w i 0) (tableOf image .alphabet)
+  pub outside : r < length w → ¬ List·Memᴰ (getD w r 0) (tableOf image .alphabet)
+
+-- a refusal as one number
+pub record RefusedAs (image w : List ℕ) (limit : ℕ) (m : List ℕ) (r : ℕ) : Type 0 where
+  pub number : ℕ
+  pub place : ℕ
+  pub first : First (reasons image w limit m) number place
+  pub is : r ≡ refusal number place
+
+-- a refusal, or 0 for what is judged
+pub record Refusing (image w : List ℕ) (limit : ℕ) (m : List ℕ) (r : ℕ) : Type 0 where
+  pub none : r ≡ 0 → Judgeable (tableOf image) image w limit m
+  pub some : ¬ (r ≡ 0) → RefusedAs image w limit m r

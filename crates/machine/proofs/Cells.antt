@@ -1,0 +1,52 @@
+-- What stands on a cell and where a move leads, case by case.
+use Prim.Native.Nat.{ℕ, zero, suc, _+_, _-_, _≤_, _<_, min}
+use native.Mathlib.Omega.{arith}
+use mathlib.Core.Path.{_≡_, refl, sym, ap, subst, _∙_}
+use mathlib.Core.Bool.{cond}
+use mathlib.Core.List.{List}
+use lib.ListN.{length, getD}
+use borrow.Author.Tests.{lt-ltb, le-ltb, eq-eqb, ne-eqb}
+use Rattle.machine.specs.Cell.{Symbol, leftMark, letter, rightMark, last, symbolOn, moved}
+
+one-less : (n : ℕ) → suc n - 1 ≡ n
+one-less n = omega arith
+
+-- cell 0 holds the left mark
+pub on-left : (w : List ℕ) (cell : ℕ) → cell ≡ 0 → symbolOn w cell ≡ leftMark
+unfolding symbolOn
+on-left w cell first = rw first refl
+
+-- cells 1 to n hold the letters
+pub on-letter : (w : List ℕ) (cell : ℕ) → ¬ (cell ≡ 0) → cell - 1 < length w → symbolOn w cell ≡ letter (getD w (cell - 1) 0)
+unfolding symbolOn
+on-letter w zero other low = absurd (other refl)
+on-letter w (suc i) other low = rw (one-less i, lt-ltb i (length w) (omega arith)) refl
+
+-- every other cell is taken as the right mark's
+pub on-right : (w : List ℕ) (cell : ℕ) → ¬ (cell ≡ 0) → length w ≤ cell - 1 → symbolOn w cell ≡ rightMark
+unfolding symbolOn
+on-right w zero other high = absurd (other refl)
+on-right w (suc i) other high = rw (le-ltb i (length w) (omega arith)) refl
+
+-- a move to the left mark
+pub moves-left : (w : List ℕ) (code cell : ℕ) → code ≡ 0 → moved w code cell ≡ 0
+unfolding moved
+moves-left w code cell left = rw (eq-eqb code 0 left) refl
+
+-- a move to the right mark
+pub moves-right : (w : List ℕ) (code cell : ℕ) → code ≡ 128 → moved w code cell ≡ last w
+unfolding moved
+moves-right w code cell right = rw right refl
+
+-- a move by code - 64, from the cell or, past it, from the right mark
+pub moves-by
+    : (w : List ℕ) (code cell from by : ℕ) → ¬ (code ≡ 0) → ¬ (code ≡ 128) → from ≡ min cell (last w) → by ≡ code
+    → moved w code cell ≡ min (from + by - 64) (last w)
+unfolding moved
+moves-by w code cell from by left right start way = rw (ne-eqb code 0 left, ne-eqb code 128 right, start, way) refl
+
+-- such a move by as many cells to the left as there are, or more, ends on the left mark
+pub moves-back
+    : (w : List ℕ) (code cell from by : ℕ) → ¬ (code ≡ 0) → ¬ (code ≡ 128) → from ≡ min cell (last w) → by ≡ code → from + by ≤ 64
+    → moved w code cell ≡ 0
+moves-back w code cell from by left right start way low = omega (arith, moves-by w code cell from by left right start way)
