@@ -2,6 +2,7 @@
 //! with the crates: other data, other ways, no limits on memory.
 
 pub mod compile;
+pub mod fenced;
 pub mod image;
 pub mod interpret;
 pub mod judge;

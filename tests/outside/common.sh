@@ -1,5 +1,6 @@
 # What the tests from outside the proof share. A test's script starts with: . "$(dirname "$0")/../common.sh"
 # It sets root (the repository), here (the test's folder) and out (where the test builds), and stops at the first failure.
+# A script that links an archive takes another archive as its argument, to try the test itself (tests/independent/standin.rs).
 set -eu -o pipefail
 here=$(cd "$(dirname "$0")" && pwd)
 root=$(cd "$here/../../.." && pwd)
@@ -14,9 +15,14 @@ rust() {
   rustc -O --edition 2021 -D warnings -o "$output" "$@" "$source"
 }
 
-# independent: builds the independent implementation as a library that program can link
-independent() {
-  rust tests/independent/lib.rs "$out/libindependent.rlib" --crate-type rlib --crate-name independent
+# program SOURCE OUTPUT WORDS..: a Rust program over the independent implementation, which is built if it has changed
+program() {
+  local source=$1 output=$2 lib=$root/target/outside/libindependent.rlib
+  shift 2
+  if [ ! -f "$lib" ] || [ -n "$(find tests/independent -name '*.rs' -newer "$lib")" ]; then
+    rust tests/independent/lib.rs "$lib" --crate-type rlib --crate-name independent
+  fi
+  rust "$source" "$output" --extern "independent=$lib" "$@"
 }
 
 # archive NAME: proves a crate, makes its archive and prints the archive's path
