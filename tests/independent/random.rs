@@ -550,7 +550,7 @@ impl Writer<'_> {
 // Tokens at and past the limits.
 
 /// How many kinds of limit there are.
-pub const EDGES: usize = 7;
+pub const EDGES: usize = 8;
 
 /// The tokens of a program that meets one limit closely: just below, exactly, or passed by one or more.
 pub fn edge(random: &mut Random, kind: usize) -> Vec<String> {
@@ -564,7 +564,7 @@ pub fn edge(random: &mut Random, kind: usize) -> Vec<String> {
             names[to] = names[from].clone();
         }
     }
-    if kind == 6 {
+    if kind >= 6 {
         alphabet = letters(random, 16);
         names = alphabet.iter().map(|&l| letter(l)).collect();
     }
@@ -614,6 +614,18 @@ pub fn edge(random: &mut Random, kind: usize) -> Vec<String> {
                     _ => writer.put("if ( c == 0 || c == 0 ) { } else { }"),
                 }
                 left -= size;
+            }
+        }
+        7 => {
+            // far over either limit, both or none, and then perhaps something that is refused before them
+            let condition = vec!["read == rend"; writer.random.between(40, 75)].join(" || ");
+            writer.put(&format!("if ( {condition} ) {{ }}"));
+            for _ in 0..writer.random.between(20, 300) {
+                writer.put("c ++ ;");
+            }
+            let last = writer.random.pick(&["", "", "", "move ( 64 ) ;", "c = 1 ;", "c -= 032 ;", "+", "else { }"]);
+            if !last.is_empty() {
+                writer.put(last);
             }
         }
         _ => {
