@@ -1,8 +1,12 @@
 /* Valaiyoth for C. Every answer is one number, and zero is never returned.
  *
  * What a caller owes: each pointer is valid for its length (any pointer goes with length 0, but let it not be NULL),
- * and the marks overlap neither the image nor the word. Nothing else is asked: every image, word, limit and length is
- * answered, and a refusal changes no byte.
+ * and the marks overlap neither the image nor the word. Nothing else is asked: no address need be aligned, every image,
+ * word, limit and length is answered, and a refusal changes no byte.
+ *
+ * What a caller gets: nothing is kept between calls and nothing is written but the marks, so that calls with mark buffers
+ * of their own may run at the same time. There is no heap and no static data; memset, memcpy or memcmp may be needed from
+ * the C library.
  */
 #ifndef VALAIYOTH_H
 #define VALAIYOTH_H
@@ -21,7 +25,7 @@ extern "C" {
 #define VALAIYOTH_KIND(answer) ((uint64_t)(answer) / 1000000)
 #define VALAIYOTH_VALUE(answer) ((uint64_t)(answer) % 1000000)
 
-/* Kinds 1 to 3 are verdicts, and their value is the number of situations reached. Only 1 grants. */
+/* Kinds 1 to 3 are verdicts, and their value is the number of situations reached, 1 to 262,144. Only 1 grants. */
 #define VALAIYOTH_YES 1
 #define VALAIYOTH_NO 2
 #define VALAIYOTH_LIMIT_MET 3
@@ -36,8 +40,9 @@ extern "C" {
 /* 1 for a well-formed image, 21000000 for any other. */
 uint64_t valaiyoth_check(const uint8_t *image, size_t image_len);
 
-/* Judges a word with a table's image, at a limit of the counter. After a verdict the first 32,768 mark bytes hold one bit
- * for each situation, set if reached, at index (state x 64 + cell) x 32 + counter, and the rest is zero. */
+/* Judges a word with a table's image, at a limit of the counter, 0 to 31. After a verdict the first 32,768 mark bytes hold
+ * one bit for each situation, set if reached, at index (state x 64 + cell) x 32 + counter: bit index % 8, the least being 0,
+ * of byte index / 8. The rest is zero. Where several refusals hold, the lowest number is given. */
 uint64_t valaiyoth_judge(const uint8_t *image, size_t image_len, const uint8_t *word, size_t word_len, uint64_t limit,
                          uint8_t *marks, size_t marks_len);
 
