@@ -165,7 +165,8 @@ impl Builder<'_> {
 #[cfg(test)]
 mod tests {
     use super::*;
-    use crate::random::{program, Random};
+    use crate::random::Random;
+    use crate::texts::program;
 
     /// States and rows by document 01's sums.
     fn sums(block: &[Statement], k: usize) -> (usize, usize) {
@@ -243,10 +244,8 @@ mod tests {
         let letters = (0..16).map(|i| format!("'{}'", (b'a' + i) as char)).collect::<Vec<_>>().join(",");
         let rows = |atoms: usize, plain: usize| {
             let condition = vec!["read==lend"; atoms].join("||");
-            let text = format!(
-                "decr_on_zero=true;alphabet=[{letters}];twoc(string){{if({condition}){{}}{}}}",
-                "c++;".repeat(plain)
-            );
+            let text =
+                format!("decr_on_zero=true;alphabet=[{letters}];twoc(string){{if({condition}){{}}{}}}", "c++;".repeat(plain));
             (line(text.as_bytes()), text.len())
         };
         assert_eq!(rows(56, 14).0, "ok 73 1024 8246");

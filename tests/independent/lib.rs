@@ -9,4 +9,5 @@ pub mod judge;
 pub mod random;
 pub mod rule;
 pub mod samples;
+pub mod texts;
 pub mod tokens;

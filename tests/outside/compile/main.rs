@@ -8,23 +8,12 @@ use independent::interpret::interpret;
 use independent::judge::MARKS;
 use independent::random::{self, Random};
 use independent::rule::Program;
-use independent::{image, samples};
+use independent::{image, samples, texts};
 use std::sync::atomic::Ordering;
 use std::time::{Duration, Instant};
 
-extern "C" {
-    fn valaiyoth_compile(text: *const u8, text_len: usize, image: *mut u8, image_len: usize) -> u64;
-    fn valaiyoth_check(image: *const u8, image_len: usize) -> u64;
-    fn valaiyoth_judge(
-        image: *const u8,
-        image_len: usize,
-        word: *const u8,
-        word_len: usize,
-        limit: u64,
-        marks: *mut u8,
-        marks_len: usize,
-    ) -> u64;
-}
+#[path = "../product.rs"]
+mod product;
 
 /// A rule with every statement, condition and kind of blank.
 const EVERYTHING: &str = "decr_on_zero = true ;\talphabet=['a','B','0'];//all\r\n twoc(string)\r{\
@@ -57,8 +46,7 @@ impl Test {
         self.expected.copy_from_slice(self.image.view());
         let text_slice = self.text.place(text, count % 4 != 0);
         let buffer = &mut self.image.all()[start..start + length];
-        // SAFETY: the slices are valid and do not overlap
-        let answer = unsafe { valaiyoth_compile(text_slice.as_ptr(), text_slice.len(), buffer.as_mut_ptr(), buffer.len()) };
+        let answer = product::compile(text_slice, buffer);
         let (should, bytes) = match compile(text, length) {
             Err(refusal) => {
                 self.refused[refusal.number as usize] += 1;
@@ -89,20 +77,7 @@ impl Test {
 
     /// The verdict of the product's judge on an image that the product made.
     fn judge(&mut self, image: &[u8], word: &[u8], limit: usize) -> u64 {
-        let marks = &mut self.marks;
-        // SAFETY: the slices are valid and do not overlap
-        let answer = unsafe {
-            valaiyoth_judge(
-                image.as_ptr(),
-                image.len(),
-                word.as_ptr(),
-                word.len(),
-                limit as u64,
-                marks.as_mut_ptr(),
-                marks.len(),
-            )
-        };
-        answer / 1_000_000
+        product::judge(image, word, limit as u64, &mut self.marks) / 1_000_000
     }
 
     /// Holds a program to the interpreter on one word at one limit.
@@ -162,11 +137,10 @@ impl Test {
 
     /// A program that compiles, on a few words and limits.
     fn program(&mut self, random: &mut Random) -> Result<(), String> {
-        let (program, tokens) = random::compiling(random);
-        let text = random::spaced(random, &tokens);
+        let (program, tokens) = texts::compiling(random);
+        let text = texts::spaced(random, &tokens);
         let Some(image) = self.compile(&text, IMAGE)? else { return Ok(()) };
-        // SAFETY: the slice is valid
-        if unsafe { valaiyoth_check(image.as_ptr(), image.len()) } != 1 {
+        if product::check(&image) != 1 {
             return Err(format!("the image is not well-formed, for the text\n{}", text.escape_ascii()));
         }
         self.agree(&program, &image, b"", random.below(32))?;
@@ -190,7 +164,7 @@ fn run(test: &mut Test, seed: u64) -> Result<(), String> {
     test.every_small_change(EVERYTHING.as_bytes())?;
     let mut random = Random::new(seed);
     for _ in 0..number("CASES").unwrap_or(20_000) {
-        let text = random::text(&mut random);
+        let text = texts::text(&mut random);
         let length = if random.chance(95) { IMAGE } else { random.pick(&[0, 1, IMAGE - 1, IMAGE + 1, 10_000]) };
         test.compile(&text, length)?;
         if random.chance(25) {

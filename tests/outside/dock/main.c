@@ -8,7 +8,7 @@
 #include "valaiyoth.h"
 
 #define COUNT(array) (sizeof(array) / sizeof((array)[0]))
-#define REFUSAL(number, place) ((uint64_t)(number) * 1000000 + (place))
+#define ANSWER(kind, value) ((uint64_t)(kind) * 1000000 + (value))
 
 static unsigned long checks;
 
@@ -130,14 +130,14 @@ static void sample_verdicts(void) {
 }
 
 static void mark_bits(void) {
-    EXPECT(judge(IMAGE(move), "", 0) == REFUSAL(VALAIYOTH_NO, 2));
+    EXPECT(judge(IMAGE(move), "", 0) == ANSWER(VALAIYOTH_NO, 2));
     EXPECT(marked(0, 0, 0) && marked(1, 1, 0));
     EXPECT(around[ROOM] == 1 && around[ROOM + 260] == 1);
     /* move(63) stops at the right mark, cell 4 */
-    EXPECT(judge(IMAGE(move_63), "aaa", 9) == REFUSAL(VALAIYOTH_NO, 2));
+    EXPECT(judge(IMAGE(move_63), "aaa", 9) == ANSWER(VALAIYOTH_NO, 2));
     EXPECT(marked(0, 0, 0) && marked(1, 4, 0));
     /* the loop that counts: in state 2, its body, the counter takes every value up to the limit */
-    EXPECT(judge(IMAGE(choose), "", 31) == REFUSAL(VALAIYOTH_LIMIT_MET, 127));
+    EXPECT(judge(IMAGE(choose), "", 31) == ANSWER(VALAIYOTH_LIMIT_MET, 127));
     for (size_t counter = 0; counter < 32; counter++) EXPECT(marked(2, 0, counter));
 }
 
@@ -145,10 +145,10 @@ static void long_words(void) {
     char word[65];
     memset(word, 'a', 64);
     word[64] = 0;
-    EXPECT(judge(IMAGE(accept), word + 2, 0) == REFUSAL(VALAIYOTH_YES, 1));        /* 62 */
-    EXPECT(judge(IMAGE(accept), word + 1, 0) == REFUSAL(VALAIYOTH_WORD_TOO_LONG, 0)); /* 63 */
-    EXPECT(judge(IMAGE(accept), word, 0) == REFUSAL(VALAIYOTH_WORD_TOO_LONG, 0));
-    EXPECT(judge(IMAGE(move_63), word + 2, 0) == REFUSAL(VALAIYOTH_NO, 2));
+    EXPECT(judge(IMAGE(accept), word + 2, 0) == ANSWER(VALAIYOTH_YES, 1));        /* 62 */
+    EXPECT(judge(IMAGE(accept), word + 1, 0) == ANSWER(VALAIYOTH_WORD_TOO_LONG, 0)); /* 63 */
+    EXPECT(judge(IMAGE(accept), word, 0) == ANSWER(VALAIYOTH_WORD_TOO_LONG, 0));
+    EXPECT(judge(IMAGE(move_63), word + 2, 0) == ANSWER(VALAIYOTH_NO, 2));
     EXPECT(marked(1, 63, 0));
 
     memset(word, 'u', 31);
@@ -162,7 +162,7 @@ static void long_words(void) {
     EXPECT(VALAIYOTH_KIND(judge(IMAGE(bal), word, 0)) == VALAIYOTH_NO);
     word[62] = 'u';
     word[63] = 0;
-    EXPECT(judge(IMAGE(bal), word, 31) == REFUSAL(VALAIYOTH_WORD_TOO_LONG, 0));
+    EXPECT(judge(IMAGE(bal), word, 31) == ANSWER(VALAIYOTH_WORD_TOO_LONG, 0));
 }
 
 static void each_refusal(void) {
@@ -173,12 +173,12 @@ static void each_refusal(void) {
         memcpy(copy, images[i].image, n);
         EXPECT(valaiyoth_check(copy, n) == 1);
         for (size_t cut = 0; cut < n; cut++) {
-            EXPECT(valaiyoth_check(copy, cut) == REFUSAL(VALAIYOTH_IMAGE_MALFORMED, 0));
-            EXPECT(judge(copy, cut, "", 0) == REFUSAL(VALAIYOTH_IMAGE_MALFORMED, 0));
+            EXPECT(valaiyoth_check(copy, cut) == ANSWER(VALAIYOTH_IMAGE_MALFORMED, 0));
+            EXPECT(judge(copy, cut, "", 0) == ANSWER(VALAIYOTH_IMAGE_MALFORMED, 0));
         }
         for (unsigned more = 0; more < 256; more++) {
             copy[n] = (uint8_t)more;
-            EXPECT(valaiyoth_check(copy, n + 1) == REFUSAL(VALAIYOTH_IMAGE_MALFORMED, 0));
+            EXPECT(valaiyoth_check(copy, n + 1) == ANSWER(VALAIYOTH_IMAGE_MALFORMED, 0));
         }
         EXPECT(memcmp(copy, images[i].image, n) == 0);
     }
@@ -190,19 +190,19 @@ static void each_refusal(void) {
             memset(word, 'u', sizeof word);
             memset(word + at, (int)byte, sizeof word - at);
             EXPECT(valaiyoth_judge(IMAGE(bal), word, sizeof word, 31, around, VALAIYOTH_MARKS) ==
-                   REFUSAL(VALAIYOTH_BYTE_OUTSIDE, at));
+                   ANSWER(VALAIYOTH_BYTE_OUTSIDE, at));
         }
     }
-    EXPECT(judge(IMAGE(bal), "ux", 31) == REFUSAL(VALAIYOTH_BYTE_OUTSIDE, 1));
-    EXPECT(judge(IMAGE(bal), "U", 31) == REFUSAL(VALAIYOTH_BYTE_OUTSIDE, 0));
+    EXPECT(judge(IMAGE(bal), "ux", 31) == ANSWER(VALAIYOTH_BYTE_OUTSIDE, 1));
+    EXPECT(judge(IMAGE(bal), "U", 31) == ANSWER(VALAIYOTH_BYTE_OUTSIDE, 0));
     /* 24 */
     static const uint64_t limits[] = {32, 33, 63, 64, 255, 256, 65536, (uint64_t)1 << 32, ((uint64_t)1 << 32) + 1, UINT64_MAX};
-    for (size_t i = 0; i < COUNT(limits); i++) EXPECT(judge(IMAGE(bal), "ur", limits[i]) == REFUSAL(VALAIYOTH_LIMIT_TOO_HIGH, 0));
+    for (size_t i = 0; i < COUNT(limits); i++) EXPECT(judge(IMAGE(bal), "ur", limits[i]) == ANSWER(VALAIYOTH_LIMIT_TOO_HIGH, 0));
     EXPECT(VALAIYOTH_KIND(judge(IMAGE(bal), "ur", 31)) == VALAIYOTH_YES);
     /* 25 */
     static const size_t lengths[] = {0, 1, 32768, VALAIYOTH_MARKS - 1, VALAIYOTH_MARKS + 1};
     for (size_t i = 0; i < COUNT(lengths); i++)
-        EXPECT(judge_at(ROOM, lengths[i], IMAGE(bal), "ur", 2, 31) == REFUSAL(VALAIYOTH_MARKS_LENGTH, 0));
+        EXPECT(judge_at(ROOM, lengths[i], IMAGE(bal), "ur", 2, 31) == ANSWER(VALAIYOTH_MARKS_LENGTH, 0));
     EXPECT(VALAIYOTH_KIND(judge_at(ROOM, VALAIYOTH_MARKS, IMAGE(bal), "ur", 2, 31)) == VALAIYOTH_YES);
 }
 
@@ -218,15 +218,15 @@ static void order_of_refusals(void) {
         size_t marks_len = set & 16u ? VALAIYOTH_MARKS - 1 : VALAIYOTH_MARKS;
         uint64_t answer = judge_at(ROOM, marks_len, image_bal, image_len, word, word_len, limit);
         if (set & 1u)
-            EXPECT(answer == REFUSAL(21, 0));
+            EXPECT(answer == ANSWER(21, 0));
         else if (set & 2u)
-            EXPECT(answer == REFUSAL(22, 0));
+            EXPECT(answer == ANSWER(22, 0));
         else if (set & 4u)
-            EXPECT(answer == REFUSAL(23, 40));
+            EXPECT(answer == ANSWER(23, 40));
         else if (set & 8u)
-            EXPECT(answer == REFUSAL(24, 0));
+            EXPECT(answer == ANSWER(24, 0));
         else if (set & 16u)
-            EXPECT(answer == REFUSAL(25, 0));
+            EXPECT(answer == ANSWER(25, 0));
         else
             EXPECT(VALAIYOTH_KIND(answer) == VALAIYOTH_NO);
     }
@@ -245,7 +245,9 @@ static void odd_addresses(void) {
         memcpy(word_room + 15 - shift, "uurrur", 6);
         size_t offset = ROOM - shift;
         EXPECT(valaiyoth_check(image_room + shift, sizeof image_bal) == 1);
-        EXPECT(judge_at(offset, VALAIYOTH_MARKS, image_room + shift, sizeof image_bal, word_room + 15 - shift, 6, 31) == expected);
+        uint64_t answer =
+            judge_at(offset, VALAIYOTH_MARKS, image_room + shift, sizeof image_bal, word_room + 15 - shift, 6, 31);
+        EXPECT(answer == expected);
         EXPECT(memcmp(around + offset, first, VALAIYOTH_MARKS) == 0);
         EXPECT(memcmp(image_room + shift, image_bal, sizeof image_bal) == 0);
         EXPECT(memcmp(word_room + 15 - shift, "uurrur", 6) == 0);
@@ -255,29 +257,30 @@ static void odd_addresses(void) {
 /* Old contents of the marks do not matter. */
 static void old_contents(void) {
     static uint8_t first[VALAIYOTH_MARKS];
-    EXPECT(judge(IMAGE(choose), "", 31) == REFUSAL(VALAIYOTH_LIMIT_MET, 127));
+    EXPECT(judge(IMAGE(choose), "", 31) == ANSWER(VALAIYOTH_LIMIT_MET, 127));
     memcpy(first, around + ROOM, VALAIYOTH_MARKS);
     static const int fillings[] = {0x00, 0xFF, 0x55, 0x01};
     for (size_t i = 0; i < COUNT(fillings); i++) {
         memset(around + ROOM, fillings[i], VALAIYOTH_MARKS);
         EXPECT(valaiyoth_judge(IMAGE(choose), (const uint8_t *)"", 0, 31, around + ROOM, VALAIYOTH_MARKS) ==
-               REFUSAL(VALAIYOTH_LIMIT_MET, 127));
+               ANSWER(VALAIYOTH_LIMIT_MET, 127));
         EXPECT(memcmp(around + ROOM, first, VALAIYOTH_MARKS) == 0);
     }
     /* and a buffer that an earlier verdict left serves as it is */
-    EXPECT(valaiyoth_judge(IMAGE(accept), (const uint8_t *)"", 0, 0, around + ROOM, VALAIYOTH_MARKS) == REFUSAL(VALAIYOTH_YES, 1));
+    EXPECT(valaiyoth_judge(IMAGE(accept), (const uint8_t *)"", 0, 0, around + ROOM, VALAIYOTH_MARKS) ==
+           ANSWER(VALAIYOTH_YES, 1));
     EXPECT(around[ROOM] == 1 && all_zero(around + ROOM + 1, VALAIYOTH_MARKS - 1));
 }
 
 /* Length 0 for each slice, and for all of them. */
 static void lengths_of_zero(void) {
     uint8_t one[1] = {0xA5};
-    EXPECT(valaiyoth_check(one, 0) == REFUSAL(VALAIYOTH_IMAGE_MALFORMED, 0));
-    EXPECT(valaiyoth_judge(one, 0, one, 0, 0, one, 0) == REFUSAL(VALAIYOTH_IMAGE_MALFORMED, 0));
-    EXPECT(valaiyoth_judge(IMAGE(bal), one, 0, 0, one, 0) == REFUSAL(VALAIYOTH_MARKS_LENGTH, 0));
-    EXPECT(valaiyoth_judge(IMAGE(bal), one, 0, 32, one, 0) == REFUSAL(VALAIYOTH_LIMIT_TOO_HIGH, 0));
+    EXPECT(valaiyoth_check(one, 0) == ANSWER(VALAIYOTH_IMAGE_MALFORMED, 0));
+    EXPECT(valaiyoth_judge(one, 0, one, 0, 0, one, 0) == ANSWER(VALAIYOTH_IMAGE_MALFORMED, 0));
+    EXPECT(valaiyoth_judge(IMAGE(bal), one, 0, 0, one, 0) == ANSWER(VALAIYOTH_MARKS_LENGTH, 0));
+    EXPECT(valaiyoth_judge(IMAGE(bal), one, 0, 32, one, 0) == ANSWER(VALAIYOTH_LIMIT_TOO_HIGH, 0));
     EXPECT(one[0] == 0xA5);
-    for (uint64_t limit = 0; limit < 32; limit++) EXPECT(judge(IMAGE(bal), "", limit) == REFUSAL(VALAIYOTH_YES, 4));
+    for (uint64_t limit = 0; limit < 32; limit++) EXPECT(judge(IMAGE(bal), "", limit) == ANSWER(VALAIYOTH_YES, 4));
 }
 
 int main(void) {

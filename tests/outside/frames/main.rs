@@ -82,7 +82,9 @@ fn read_code(code: &str) -> Result<BTreeMap<String, Function>, String> {
                 ("add", Some(_)) => {}
                 // rounding down takes up to one less than the alignment
                 ("and", Some(n)) if n < 0 => function.adjustments += n.unsigned_abs() - 1,
-                ("lea", None) if operands.contains("(%rsp),%rsp") => function.adjustments += below_pointer(operands).unwrap_or(0),
+                ("lea", None) if operands.contains("(%rsp),%rsp") => {
+                    function.adjustments += below_pointer(operands).unwrap_or(0)
+                }
                 // back to where the frame began
                 ("lea" | "mov", None) if operands.contains("%rbp") => {}
                 _ => return Err(format!("{name} moves the stack pointer by what cannot be told: {instruction}")),
@@ -165,7 +167,7 @@ fn main() {
     if sum > MOST {
         wrong.push(format!("{sum} bytes are over {MOST}"));
     }
-    println!("frames in all: {sum} bytes of {} functions (at most {MOST}); along the deepest calls: {path} bytes", functions.len());
+    println!("frames in all: {sum} bytes of {} functions, at most {MOST}; along the deepest calls {path}", functions.len());
     for what in &wrong {
         println!("WRONG: {what}");
     }

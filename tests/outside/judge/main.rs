@@ -4,34 +4,12 @@
 use independent::fenced::{report_faults, Fenced, CASE};
 use independent::judge::{self, MARKS};
 use independent::random::{self, Random};
-use independent::{compile, image, samples};
+use independent::{compile, image, samples, texts};
 use std::sync::atomic::Ordering;
 use std::time::{Duration, Instant};
 
-extern "C" {
-    fn valaiyoth_check(image: *const u8, image_len: usize) -> u64;
-    fn valaiyoth_judge(
-        image: *const u8,
-        image_len: usize,
-        word: *const u8,
-        word_len: usize,
-        limit: u64,
-        marks: *mut u8,
-        marks_len: usize,
-    ) -> u64;
-}
-
-fn product_check(image: &[u8]) -> u64 {
-    // SAFETY: the slice is valid
-    unsafe { valaiyoth_check(image.as_ptr(), image.len()) }
-}
-
-fn product_judge(image: &[u8], word: &[u8], limit: u64, marks: &mut [u8]) -> u64 {
-    // SAFETY: the slices are valid and the marks overlap no other
-    unsafe {
-        valaiyoth_judge(image.as_ptr(), image.len(), word.as_ptr(), word.len(), limit, marks.as_mut_ptr(), marks.len())
-    }
-}
+#[path = "../product.rs"]
+mod product;
 
 struct Rooms {
     image: Fenced,
@@ -53,15 +31,11 @@ fn some_image(random: &mut Random) -> (Vec<u8>, Vec<u8>) {
             (image::encode(&table), table.alphabet)
         }
         5 | 6 => {
-            let (program, _) = random::compiling(random);
+            let (program, _) = texts::compiling(random);
             (image::encode(&compile::construct(&program)), program.alphabet)
         }
         _ => {
-            let table = if random.chance(50) {
-                random::table(random)
-            } else {
-                compile::construct(&random::compiling(random).0)
-            };
+            let table = if random.chance(50) { random::table(random) } else { compile::construct(&texts::compiling(random).0) };
             let kind = random.below(random::DAMAGES);
             (random::damaged(random, &table, kind), table.alphabet)
         }
@@ -91,14 +65,17 @@ fn one_case(rooms: &mut Rooms, random: &mut Random) -> Result<(), String> {
     let start = rooms.marks.offset(length, random.chance(70));
     let part = start..start + length;
 
-    let checked = product_check(image_slice);
+    let checked = product::check(image_slice);
     let should_check = judge::check(&image);
     if checked != should_check {
         return Err(format!("check gives {checked}, not {should_check}, for\n{}", hex(&image)));
     }
-    let answer = product_judge(image_slice, word_slice, limit, &mut rooms.marks.all()[part.clone()]);
+    let answer = product::judge(image_slice, word_slice, limit, &mut rooms.marks.all()[part.clone()]);
     let should_answer = judge::judge(&image, &word, limit, &mut rooms.expected[part.clone()]);
-    let asked = || format!("image\n{}\nword {:?}, limit {limit}, {length} mark bytes", hex(&image), word.escape_ascii().to_string());
+    let asked = || {
+        let word = word.escape_ascii();
+        format!("image\n{}\nword '{word}', limit {limit}, {length} mark bytes", hex(&image))
+    };
     if answer != should_answer {
         return Err(format!("judge gives {answer}, not {should_answer}, for {}", asked()));
     }
@@ -127,7 +104,7 @@ fn single_bytes() -> Result<usize, String> {
             let old = image[at];
             for new in 0..=255 {
                 image[at] = new;
-                if product_check(&image) != judge::check(&image) {
+                if product::check(&image) != judge::check(&image) {
                     return Err(format!("check of the rule {} with byte {at} set to {new}", rule.name));
                 }
                 compared += 1;
@@ -180,8 +157,7 @@ fn main() {
         }
     }
     let k = rooms.kinds;
-    println!(
-        "seed {seed}: {changes} single bytes changed, {done} cases judged: {} yes, {} no, {} limit met (up to {} situations), refused 21 to 25: {:?}",
-        k[1], k[2], k[3], rooms.most, &k[21..]
-    );
+    print!("seed {seed}: {changes} single bytes changed, {done} cases judged: ");
+    print!("{} yes, {} no, {} limit met (up to {} situations), ", k[1], k[2], k[3], rooms.most);
+    println!("refused 21 to 25: {:?}", &k[21..]);
 }
