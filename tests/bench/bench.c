@@ -1,6 +1,6 @@
 /* Times the product's judge and a plain one side by side on tables that are easy for one way of searching and hard for
- * another. Both must give the same answer and the same marks. With a number of seconds as its word it goes on to try random
- * tables for that long and shows the worst ratios. Run by hand; no test. */
+ * another. Both must give the same answer and the same marks. With a number of seconds as its word it goes on to search
+ * for bad ratios among random tables for that long. Run by hand; no test. */
 #define _POSIX_C_SOURCE 200809L
 #include <stdio.h>
 #include <stdlib.h>
@@ -269,7 +269,8 @@ static void many_rows(void) {
     run("1,024 rows, no counter", 62, 31);
 }
 
-/* Random tables by a generator of their own; the worst ratios seen. */
+/* A search for bad ratios: random tables by a generator of their own, each changed step by step as long as that makes the
+ * ratio worse. */
 static uint64_t random_state = 88172645463325252u;
 
 static unsigned below(unsigned n) {
@@ -279,39 +280,108 @@ static unsigned below(unsigned n) {
     return (unsigned)(random_state >> 11) % n;
 }
 
-static void random_table(void) {
+struct some_row {
+    unsigned from, symbol, test, to;
+    int motion, change;
+};
+
+struct some_table {
+    unsigned states, rows;
+    int decr_on_zero;
+    size_t word_len;
+    uint64_t limit;
+    struct some_row row[1024];
+};
+
+/* How the rows of a table are made: where they go, how far they move, what they add. */
+struct habit {
+    unsigned to, move, change, multiplier, shift;
+};
+
+static struct some_row random_row(const struct habit *h, unsigned from, unsigned states) {
+    struct some_row r = {from, ANY, EITHER, from, STAY, SAME};
+    if (h->to == 0) r.to = below(states);
+    if (h->to == 1) r.to = (from * h->multiplier + h->shift) % states;
+    if (h->to == 2) r.to = (from + states - 1) % states;
+    if (h->move == 1) r.motion = BY((int)below(3) - 1);
+    if (h->move == 2) r.motion = BY(-1);
+    if (h->move == 3) r.motion = (int)below(129);
+    if (h->change == 1) r.change = CHANGE((int)below(3) - 1);
+    if (h->change == 2) r.change = CHANGE(1);
+    if (h->change == 3) r.change = (int)below(63);
+    if (below(4) == 0) r.symbol = below(3) ? 0 : LEND + below(2);
+    if (below(4) == 0) r.test = below(2);
+    return r;
+}
+
+static struct habit random_habit(unsigned states) {
+    struct habit h = {below(4), below(4), below(4), 2 * below(64) + 1, below(states)};
+    return h;
+}
+
+static void random_table(struct some_table *t) {
     static const unsigned sizes[] = {1, 2, 3, 5, 8, 20, 60, 128};
-    unsigned states = sizes[below(8)], each = 1 + below(3), jump = below(3), move = below(4), change = below(4);
-    start(states, (int)below(2));
-    unsigned multiplier = 2 * below(64) + 1, shift = below(states);
-    for (unsigned i = 0; i < states * each; i++) {
-        unsigned s = i % states, to = s;
-        if (jump == 0) to = below(states);
-        if (jump == 1) to = (s * multiplier + shift) % states;
-        if (jump == 2) to = (s + states - 1) % states;
-        int by = move == 0 ? 0 : move == 1 ? (int)below(3) - 1 : move == 2 ? -1 : (int)below(127) - 63;
-        int add = change == 0 ? 0 : change == 1 ? (int)below(3) - 1 : change == 2 ? 1 : (int)below(63) - 31;
-        unsigned symbol = below(4) ? ANY : below(3) ? 0 : LEND + below(2);
-        int motion = below(16) ? BY(by) : below(2) ? TO_LEND : TO_REND;
-        row(s, symbol, below(4) ? EITHER : below(2), motion, CHANGE(add), to);
+    t->states = sizes[below(8)];
+    t->decr_on_zero = (int)below(2);
+    t->word_len = below(4) ? 62 : below(63);
+    t->limit = below(4) ? 31 : below(32);
+    struct habit h = random_habit(t->states);
+    t->rows = t->states * (1 + below(3));
+    for (unsigned i = 0; i < t->rows; i++) t->row[i] = random_row(&h, i % t->states, t->states);
+}
+
+static void change_table(struct some_table *t) {
+    struct habit h = random_habit(t->states);
+    for (unsigned n = 1 + below(3); n > 0; n--) {
+        unsigned kind = below(6), at = t->rows ? below(t->rows) : 0;
+        if (kind == 0 && t->rows > 0) {
+            t->row[at] = t->row[--t->rows];
+        } else if (kind <= 2 && t->rows < 1024) {
+            t->row[t->rows++] = random_row(&h, below(t->states), t->states);
+        } else if (kind == 3 && t->states < 128) {
+            t->states++;
+        } else if (t->rows > 0) {
+            t->row[at] = random_row(&h, t->row[at].from, t->states);
+        }
     }
 }
 
+static struct result measure_table(const struct some_table *t, unsigned repetitions) {
+    start(t->states, t->decr_on_zero);
+    for (unsigned i = 0; i < t->rows; i++) {
+        const struct some_row *r = &t->row[i];
+        row(r->from, r->symbol, r->test, r->motion, r->change, r->to);
+    }
+    return measure(letters62(), t->word_len, t->limit, repetitions);
+}
+
 static void random_tables(int seconds) {
+    static struct some_table best, other;
     double end = now() + seconds * 1e6, shown = 0;
     unsigned long tried = 0;
     while (now() < end) {
-        random_table();
-        size_t word_len = below(4) ? 62 : below(63);
-        uint64_t limit = below(4) ? 31 : below(32);
-        struct result r = measure(letters62(), word_len, limit, 2);
+        random_table(&best);
+        struct result r = measure_table(&best, 2);
+        double ratio = r.ours / r.plain;
         tried++;
-        if (r.ours / r.plain > shown) {
-            r = measure(letters62(), word_len, limit, REPETITIONS);
+        for (unsigned without = 0; without < 40 && now() < end; without++) {
+            other = best;
+            change_table(&other);
+            r = measure_table(&other, 2);
+            tried++;
+            if (r.ours / r.plain > ratio) {
+                best = other;
+                ratio = r.ours / r.plain;
+                without = 0;
+            }
+        }
+        if (ratio > shown) {
+            r = measure_table(&best, REPETITIONS);
             if (r.ours / r.plain <= shown) continue;
             shown = r.ours / r.plain;
             char name[100];
-            snprintf(name, sizeof name, "random table %lu, %zu letters, limit %llu", tried, word_len, (unsigned long long)limit);
+            snprintf(name, sizeof name, "random, table %lu: %u states, %zu letters, limit %llu", tried, best.states, best.word_len,
+                     (unsigned long long)best.limit);
             print(name, r);
         }
     }
