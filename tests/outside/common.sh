@@ -1,0 +1,36 @@
+# What the tests from outside the proof share. A test's script starts with: . "$(dirname "$0")/../common.sh"
+# It sets root (the repository), here (the test's folder) and out (where the test builds), and stops at the first failure.
+# A script that links an archive takes another archive as its argument, to try the test itself (tests/independent/standin.rs).
+set -eu -o pipefail
+here=$(cd "$(dirname "$0")" && pwd)
+root=$(cd "$here/../../.." && pwd)
+out=$root/target/outside/$(basename "$here")
+mkdir -p "$out"
+cd "$root"
+
+# rust SOURCE OUTPUT WORDS..: compiles plain Rust
+rust() {
+  local source=$1 output=$2
+  shift 2
+  rustc -O --edition 2021 -D warnings -o "$output" "$@" "$source"
+}
+
+# program SOURCE OUTPUT WORDS..: a Rust program over the independent implementation, which is built if it has changed
+program() {
+  local source=$1 output=$2 lib=$root/target/outside/libindependent.rlib
+  shift 2
+  if [ ! -f "$lib" ] || [ -n "$(find tests/independent -name '*.rs' -newer "$lib")" ]; then
+    rust tests/independent/lib.rs "$lib" --crate-type rlib --crate-name independent
+  fi
+  rust "$source" "$output" --extern "independent=$lib" "$@"
+}
+
+# archive NAME: proves a crate, makes its archive and prints the archive's path
+archive() {
+  local log=$out/staticlib-$1.log
+  if ! rt staticlib "$1" >"$log" 2>&1; then
+    tail -n 20 "$log" >&2
+    return 1
+  fi
+  echo "$root/target/staticlib/lib$1.a"
+}
