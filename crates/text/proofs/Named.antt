@@ -58,7 +58,11 @@ word-of-name Word.Also = refl
 word-of-name Word.Read = refl
 word-of-name Word.Other = refl
 
-found-step : (x : Word) (xs : List Word) (l : List ℕ) (t : Bool) → isNamed (name x) l ≡ t → ¬ (name x ≡ reserved l) → found xs l ≡ Word.Other → found (x ∷ xs) l ≡ Word.Other
+found-step : (x : Word) (xs : List Word) (l : List ℕ) (t : Bool)
+    → isNamed (name x) l ≡ t
+    → ¬ (name x ≡ reserved l)
+    → found xs l ≡ Word.Other
+    → found (x ∷ xs) l ≡ Word.Other
 unfolding found
 found-step x xs l true e h r = absurd (h (is-named (name x) l e))
 found-step x xs l false e h r = rw (e, found) r

@@ -49,7 +49,8 @@ pub data Run (test : ℕ → Bool) (text : List ℕ) : ℕ → ℕ → Type 0 wh
   stop : {i : ℕ} → i < length text → test (getD text i 0) ≡ false → Run test text i i
   on : {i n : ℕ} → i < length text → test (getD text i 0) ≡ true → Run test text (i + 1) n → Run test text i n
 
--- the reserved words as they are compared, the last first: those of the program's head, of plain statements, of statements that hold blocks, and of conditions
+-- the reserved words as they are compared, the last first: those of a program's head, of plain statements, of statements that
+-- hold blocks, and of conditions
 abbrev pub headWords : List Word
 headWords = Word.String ∷ Word.Twoc ∷ Word.False ∷ Word.True ∷ Word.DecrOnZero ∷ Word.Alphabet ∷ []
 
