@@ -63,10 +63,11 @@ blockWords = Word.Also ∷ Word.Branch ∷ Word.Choose ∷ Word.While ∷ Word.E
 abbrev pub allWords : List Word
 allWords = Word.Rend ∷ Word.Lend ∷ Word.Read ∷ blockWords
 
+infixr 40 _nor_
 -- these bytes are none of these words
-abbrev pub NoneOf : List Word → List ℕ → Type 0
-NoneOf [] l = Unit {0}
-NoneOf (x ∷ xs) l = ¬ (name x ≡ reserved l) × NoneOf xs l
+pub data NoneOf : List Word → List ℕ → Type 0 where
+  none : {l : List ℕ} → NoneOf [] l
+  _nor_ : {x : Word} {xs : List Word} {l : List ℕ} → ¬ (name x ≡ reserved l) → NoneOf xs l → NoneOf (x ∷ xs) l
 
 -- these bytes are this sign, or no sign
 abbrev pub IsSign : List ℕ → Found → Type 0

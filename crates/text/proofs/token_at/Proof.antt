@@ -28,7 +28,8 @@ loop-less : tie.Need-loop-less Inv-loop μ-loop
 loop-less c =
     let t = c .before .before .before in
     let l = t .before .before in
-    let s = step-blank (l .before .before .args .text .now) (l .loop .at) (c .before .next .given .0 .0) (t .step-at .ensures) (c .before .next .given .1) in
+    let n = c .before .next .given in
+    let s = step-blank (l .before .before .args .text .now) (l .loop .at) (n .0 .0) (t .step-at .ensures) (n .1) in
     omega (arith, s .onward)
 
 loop-again : tie.Need-loop-again Inv-loop μ-loop

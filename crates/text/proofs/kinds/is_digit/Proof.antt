@@ -15,12 +15,14 @@ enum-told c = search needs
 returns : tie.Need-returns
 returns c =
     let k = c .before .before in
-    sym (kind-decides (k .before .args .b) (k .kind-of .result) (k .kind-of .ensures) .digit ∙ among 1 (0 ∷ []) (k .kind-of .result) tt (c .before .match .keys1))
+    let d = kind-decides (k .before .args .b) (k .kind-of .result) (k .kind-of .ensures) in
+    sym (d .digit ∙ among 1 (0 ∷ []) (k .kind-of .result) tt (c .before .match .keys1))
 
 returns-2 : tie.Need-returns-2
 returns-2 c =
     let k = c .before in
-    sym (kind-decides (k .before .args .b) (k .kind-of .result) (k .kind-of .ensures) .digit ∙ beyond 1 (1 ∷ 2 ∷ 3 ∷ 4 ∷ 5 ∷ 6 ∷ 7 ∷ []) (k .kind-of .result) tt (c .match .keys2))
+    let d = kind-decides (k .before .args .b) (k .kind-of .result) (k .kind-of .ensures) in
+    sym (d .digit ∙ beyond 1 (1 ∷ 2 ∷ 3 ∷ 4 ∷ 5 ∷ 6 ∷ 7 ∷ []) (k .kind-of .result) tt (c .match .keys2))
 
 pub is-digit-spec : {M : Type 1} → statement M
 is-digit-spec = tie.close (tie.spec kind-of-requires enum-told returns returns-2)

@@ -27,7 +27,8 @@ is-letter-requires c κs = search needs
 returns-2 : tie.Need-returns-2
 returns-2 c =
     let s = c .before .before .before .before .before in
-    letter-other (s .args .text .now) (s .args .at) (s .pre .0) (s .pre .1) (omega arith) (sym (c .before .is-letter .ensures) ∙ not-true _ (c .if2 .taken))
+    let other = sym (c .before .is-letter .ensures) ∙ not-true _ (c .if2 .taken) in
+    letter-other (s .args .text .now) (s .args .at) (s .pre .0) (s .pre .1) (omega arith) other
 
 add-if3 : tie.Need-add-if3
 add-if3 c = search needs
@@ -39,7 +40,8 @@ returns-3 : tie.Need-returns-3
 returns-3 c =
     let t = c .before .before in
     let s = t .before .before .before .before .before in
-    letter-open (s .args .text .now) (s .args .at) (s .pre .0) (s .pre .1) (omega arith) (sym (t .before .is-letter .ensures) ∙ not-false _ (t .if2 .left)) (c .if3 .taken)
+    let letter = sym (t .before .is-letter .ensures) ∙ not-false _ (t .if2 .left) in
+    letter-open (s .args .text .now) (s .args .at) (s .pre .0) (s .pre .1) (omega arith) letter (c .if3 .taken)
 
 add-t4 : tie.Need-add-t4
 add-t4 c = search needs
@@ -48,7 +50,8 @@ returns-4 : tie.Need-returns-4
 returns-4 c =
     let t = c .before .before in
     let s = t .before .before .before .before .before in
-    letter-first (s .args .text .now) (s .args .at) (s .pre .0) (s .pre .1) (omega arith) (sym (t .before .is-letter .ensures) ∙ not-false _ (t .if2 .left)) (c .if3 .left)
+    let letter = sym (t .before .is-letter .ensures) ∙ not-false _ (t .if2 .left) in
+    letter-first (s .args .text .now) (s .args .at) (s .pre .0) (s .pre .1) (omega arith) letter (c .if3 .left)
 
 pub letter-at-spec : {M : Type 1} → statement M
 letter-at-spec =

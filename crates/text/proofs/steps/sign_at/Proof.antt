@@ -41,7 +41,8 @@ returns : tie.Need-returns
 returns c =
     let t = c .before .before .before in
     let s = t .before .before .before .before in
-    pair-first (s .args .text .now) (s .args .at) (s .pre .0) (s .pre .1) (t .before .byte-at .ensures) (t .pair .ensures) _ (c .before .sign .given .1)
+    pair-first (s .args .text .now) (s .args .at) (s .pre .0) (s .pre .1) (t .before .byte-at .ensures) (t .pair .ensures)
+    _ (c .before .sign .given .1)
 
 returns-2 : tie.Need-returns-2
 returns-2 c =

@@ -26,7 +26,8 @@ returns-2 : tie.Need-returns-2
 returns-2 c =
     let t = c .before in
     let s = t .before .before .before in
-    comment-skips (s .args .text .now) (s .args .at) (s .pre .0) (s .pre .1) (sym (t .before .byte-at .ensures) ∙ t .if1 .left) (c .comment-end .ensures)
+    let second = sym (t .before .byte-at .ensures) ∙ t .if1 .left in
+    comment-skips (s .args .text .now) (s .args .at) (s .pre .0) (s .pre .1) second (c .comment-end .ensures)
 
 pub slash-at-spec : {M : Type 1} → statement M
 slash-at-spec =
