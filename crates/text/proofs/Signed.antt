@@ -1,7 +1,7 @@
 -- A sign is known by how it is written, and the longest sign at the front of some bytes is that of the first two, or of the first.
 use Prim.Native.Nat.{ℕ, zero, suc, _≤_, zero-le, suc-le-suc}
 use native.Mathlib.Omega.{arith}
-use mathlib.Core.Path.{_≡_, refl, sym, ap, ap₂, _∙_, subst}
+use mathlib.Core.Path.{_≡_, refl, sym, ap₂, _∙_}
 use mathlib.Core.Bool.{Bool, true, false, not, _||_}
 use mathlib.Core.Logic.{⊎-elim}
 use mathlib.Core.List.{List, [], _∷_, List·Memᴰ, List·Memᴰ·head, List·Memᴰ·tail}

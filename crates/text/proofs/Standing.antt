@@ -1,5 +1,5 @@
 -- What stands at a byte of a text, by the byte's kind and the bytes after it.
-use Prim.Native.Nat.{ℕ, zero, suc, _+_, _-_, _≤_, _<_, zero-le, suc-le-suc}
+use Prim.Native.Nat.{ℕ, zero, suc, _+_, _-_, _≤_, _<_}
 use native.Mathlib.Omega.{arith}
 use native.Mathlib.Numerals.{add-one}
 use mathlib.Core.Path.{_≡_, refl, sym, ap, ap₂, _∙_, subst, subst₂}
@@ -22,7 +22,7 @@ use Rattle.text.specs.declared.Sign.{Sign}
 use Rattle.text.specs.declared.signs.Found.{Found}
 use Rattle.text.specs.declared.signs.Found.the-variants as Found
 use Rattle.text.specs.declared.kinds.Kind.the-variants as Kinds
-use Rattle.text.proofs.Scan.{Sort, ofWord, ofNumber, ofLetter, ofSign, Kind, forToken, forWhite, forComment, kind, run, letterReach, reach, made, skip, bad, lexComment, lexToken, lexAs, lex}
+use Rattle.text.proofs.Scan.{Sort, ofLetter, ofSign, Kind, forToken, forComment, kind, run, letterReach, reach, made, skip, bad, lexComment, lexToken, lexAs, lex}
 use Rattle.text.proofs.Runs.{run-on, run-off, run-out}
 use Rattle.text.proofs.Reach.{kind-word, kind-number, kind-white}
 use Rattle.text.proofs.Sorting.{kind-sorted, no-begin}
