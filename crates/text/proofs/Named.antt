@@ -5,7 +5,7 @@ use mathlib.Core.Bool.{Bool, true, false, true≢false}
 use mathlib.Core.List.{List, [], _∷_}
 use Rattle.bits.proofs.Tests.{sameList, same-list}
 use Rattle.text.specs.First.{Name, reserved, unreserved, name, IsNamed, IsWord}
-use Rattle.text.specs.Inside.{allWords, NoneOf}
+use Rattle.text.specs.Inside.{allWords, NoneOf, none, _nor_}
 use Rattle.text.specs.declared.Word.{Word}
 use Rattle.text.specs.declared.Word.the-variants as Word
 use Rattle.text.proofs.Runs.{true-T}
@@ -58,32 +58,36 @@ word-of-name Word.Also = refl
 word-of-name Word.Read = refl
 word-of-name Word.Other = refl
 
-found-step : (x : Word) (xs : List Word) (l : List ℕ) (t : Bool) → isNamed (name x) l ≡ t → ¬ (name x ≡ reserved l) → found xs l ≡ Word.Other → found (x ∷ xs) l ≡ Word.Other
+found-step : (x : Word) (xs : List Word) (l : List ℕ) (t : Bool)
+    → isNamed (name x) l ≡ t
+    → ¬ (name x ≡ reserved l)
+    → found xs l ≡ Word.Other
+    → found (x ∷ xs) l ≡ Word.Other
 unfolding found
 found-step x xs l true e h r = absurd (h (is-named (name x) l e))
 found-step x xs l false e h r = rw (e, found) r
 
-found-none : (xs : List Word) (l : List ℕ) → NoneOf xs l → found xs l ≡ Word.Other
+found-none : {xs : List Word} {l : List ℕ} → NoneOf xs l → found xs l ≡ Word.Other
 unfolding found
-found-none [] l h = refl
-found-none (x ∷ xs) l h = found-step x xs l (isNamed (name x) l) refl (h .0) (found-none xs l (h .1))
+found-none none = refl
+found-none (_nor_ {x} {xs} {l} h r) = found-step x xs l (isNamed (name x) l) refl h (found-none r)
 
 -- bytes that are none of the reserved words are another
 pub none-of-all : {l : List ℕ} → NoneOf allWords l → IsWord Word.Other l
 unfolding wordOf
 none-of-all {l} h x e =
-    let other : x ≡ Word.Other = sym (word-of-name x) ∙ (ap wordOf e ∙ found-none allWords l h) in
+    let other : x ≡ Word.Other = sym (word-of-name x) ∙ (ap wordOf e ∙ found-none h) in
     let no : unreserved ≡ reserved l = sym (ap name other) ∙ e in
     true≢false (cc)
 
 none-each : (xs : List Word) (l : List ℕ) → ((x : Word) → ¬ (name x ≡ reserved l)) → NoneOf xs l
-none-each [] l h = tt
-none-each (x ∷ xs) l h = (h x, none-each xs l h)
+none-each [] l h = none
+none-each (x ∷ xs) l h = h x nor none-each xs l h
 
 named-is : (x : Word) (n : Name) (l : List ℕ) → name x ≡ n → IsNamed n l → x ≡ found allWords l
 unfolding wordOf
 named-is x (reserved bytes) l e h = sym (word-of-name x) ∙ ap wordOf (e ∙ ap reserved (sym h))
-named-is x unreserved l e h = sym (word-of-name x) ∙ (ap wordOf e ∙ sym (found-none allWords l (none-each allWords l h)))
+named-is x unreserved l e h = sym (word-of-name x) ∙ (ap wordOf e ∙ sym (found-none (none-each allWords l h)))
 
 -- bytes are one word only
 pub word-is : (x : Word) (l : List ℕ) → IsWord x l → x ≡ found allWords l

@@ -1,5 +1,5 @@
 -- What comes first in a text from a byte on is one thing only: the tokens from there fix it.
-use Prim.Native.Nat.{ℕ, _+_, _-_, _≤_, _<_}
+use Prim.Native.Nat.{ℕ, _+_, _-_, _≤_}
 use native.Mathlib.Omega.{arith}
 use mathlib.Core.Path.{_≡_, refl, sym, ap, _∙_, subst₂}
 use mathlib.Core.List.{List, [], _∷_}
@@ -64,7 +64,10 @@ module _ (text : List ℕ) (ts : List Placed) (e : Ending) where
   begins-answer (Token.Broken p) b = rw (b .none, b .ended)
 
 -- what comes first in the text begins its tokens, however they were found
-pub comes : {text : List ℕ} {p : ℕ} {r : Token} {ts : List Placed} {e : Ending} → Tokens p (drop p text) ts e → First text p r → Begins text ts e r
+pub comes : {text : List ℕ} {p : ℕ} {r : Token} {ts : List Placed} {e : Ending}
+    → Tokens p (drop p text) ts e
+    → First text p r
+    → Begins text ts e r
 comes {text} {r = r} h f =
     let same = tokens-once (f .all) h in
     subst₂ (λ (us : List Placed) (g : Ending). Begins text us g r) (same .0) (same .1) (f .begins)

@@ -1,7 +1,7 @@
 -- A sign is known by how it is written, and the longest sign at the front of some bytes is that of the first two, or of the first.
 use Prim.Native.Nat.{ℕ, zero, suc, _≤_, zero-le, suc-le-suc}
 use native.Mathlib.Omega.{arith}
-use mathlib.Core.Path.{_≡_, refl, sym, ap, ap₂, _∙_, subst}
+use mathlib.Core.Path.{_≡_, refl, sym, ap₂, _∙_}
 use mathlib.Core.Bool.{Bool, true, false, not, _||_}
 use mathlib.Core.Logic.{⊎-elim}
 use mathlib.Core.List.{List, [], _∷_, List·Memᴰ, List·Memᴰ·head, List·Memᴰ·tail}
@@ -54,7 +54,10 @@ pub no-mixed : (a b k : ℕ)
     → (a ≡ b → ⊥)
     → ¬ List·Memᴰ (a ∷ b ∷ []) signs
 no-mixed a b k t h g m =
-    ⊎-elim (λ e. h (eqb→eq b k e)) (λ e. g (eqb→eq a b e)) (T-either (eqb b k) (eqb a b) (every-at (ofTwo (λ (x y : ℕ). eqb y k || eqb x y)) m t))
+    ⊎-elim
+    (λ e. h (eqb→eq b k e))
+    (λ e. g (eqb→eq a b e))
+    (T-either (eqb b k) (eqb a b) (every-at (ofTwo (λ (x y : ℕ). eqb y k || eqb x y)) m t))
 
 -- or else its first is a key
 pub no-double : (kss : List (List ℕ)) (a b k : ℕ)
@@ -160,14 +163,20 @@ two-long a (b ∷ bs) m =
     omega (arith, longestOf-bound {l = a ∷ b ∷ []} bs m)
 
 -- else of one where that is
-pub one-long : (a : ℕ) (bs : List ℕ) → List·Memᴰ (a ∷ []) signs → ¬ List·Memᴰ (a ∷ getD bs 0 0 ∷ []) signs → longestOf signs (a ∷ bs) ≡ 1
+pub one-long : (a : ℕ) (bs : List ℕ)
+    → List·Memᴰ (a ∷ []) signs
+    → ¬ List·Memᴰ (a ∷ getD bs 0 0 ∷ []) signs
+    → longestOf signs (a ∷ bs) ≡ 1
 one-long a bs m h =
     let most = short (a ∷ bs) (longestOf signs (a ∷ bs)) refl in
     let other = not-two a bs h in
     omega (arith, longestOf-bound {l = a ∷ []} bs m)
 
 -- and else there is none
-pub none-long : (a : ℕ) (bs : List ℕ) → ¬ List·Memᴰ (a ∷ []) signs → ¬ List·Memᴰ (a ∷ getD bs 0 0 ∷ []) signs → longestOf signs (a ∷ bs) ≡ 0
+pub none-long : (a : ℕ) (bs : List ℕ)
+    → ¬ List·Memᴰ (a ∷ []) signs
+    → ¬ List·Memᴰ (a ∷ getD bs 0 0 ∷ []) signs
+    → longestOf signs (a ∷ bs) ≡ 0
 none-long a bs g h =
     let most = short (a ∷ bs) (longestOf signs (a ∷ bs)) refl in
     let other = not-two a bs h in

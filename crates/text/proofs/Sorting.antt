@@ -21,7 +21,7 @@ use Rattle.text.specs.declared.kinds.Kind.the-variants.{Digit, Alphabeti
 use Rattle.text.proofs.kinds.Kind.{the-type}
 use Rattle.text.proofs.Scan as Scan
 use Rattle.text.proofs.Scan.{forToken, forWhite, forComment, ofWord, ofNumber, ofLetter, ofSign}
-use Rattle.text.proofs.Reach.{Says, kind-says, digit-no-word}
+use Rattle.text.proofs.Reach.{kind-says, digit-no-word}
 use Rattle.text.proofs.Runs.{T-true, T-false, T-both, T-either}
 
 -- the test passes for each of n numbers from a first one on
@@ -62,11 +62,14 @@ no-key [] test b h t = t
 no-key (ks ∷ kss) test b h t =
     ⊎-elim (λ k. absurd (h .1 (hit ks b k))) (no-key kss test b (h .0)) (T-either (hasKey ks b) (unless kss test b) t)
 
--- a kind by its number
+-- a kind has a number, by which it is found
 abbrev tag : Kind → ℕ
 tag = tagOf the-type
 
-numbered : (k : Kind) → getD (Digit ∷ Alphabetic ∷ Underscore ∷ Quote ∷ White ∷ Slash ∷ Sign ∷ Other ∷ []) (tag k) Other ≡ k
+abbrev kinds : List Kind
+kinds = Digit ∷ Alphabetic ∷ Underscore ∷ Quote ∷ White ∷ Slash ∷ Sign ∷ Other ∷ []
+
+numbered : (k : Kind) → getD kinds (tag k) Other ≡ k
 numbered Digit = refl
 numbered Alphabetic = refl
 numbered Underscore = refl
@@ -76,13 +79,14 @@ numbered Slash = refl
 numbered Sign = refl
 numbered Other = refl
 
+-- a byte's kind is this one
 abbrev pub isKind : Kind → ℕ → Bool
 isKind k b = eqb (tag k) (tag (kindOf b))
 
 is-kind : (k : Kind) (b : ℕ) → T (isKind k b) → k ≡ kindOf b
 is-kind k b t =
     sym (numbered k)
-    ∙ ap (λ (n : ℕ). getD (Digit ∷ Alphabetic ∷ Underscore ∷ Quote ∷ White ∷ Slash ∷ Sign ∷ Other ∷ []) n Other) (eqb→eq (tag k) (tag (kindOf b)) t)
+    ∙ ap (λ (n : ℕ). getD kinds n Other) (eqb→eq (tag k) (tag (kindOf b)) t)
     ∙ numbered (kindOf b)
 
 -- the kind of an arm's keys
@@ -153,7 +157,7 @@ same-kind false false false false false true g h = refl
 same-kind false false false false false false true h = refl
 same-kind false false false false false false false h = refl
 
--- its kind is that
+-- and that is the byte's kind there
 pub kind-sorted : (b : ℕ) {k : Kind} → kindOf b ≡ k → Scan.kind b ≡ asKind k
 unfolding Scan.kind
 kind-sorted b e =
@@ -180,12 +184,33 @@ not-other false false false false false true g t = tt
 not-other false false false false false false true t = tt
 not-other false false false false false false false t = absurd t
 
--- no sign begins with a byte of no other kind
+-- no sign begins with a byte of the last kind
 pub no-begin : (b : ℕ) {l : List ℕ} → kindOf b ≡ Other → ¬ List·Memᴰ (b ∷ l) signs
 no-begin b e m =
     subst (λ (k : Kind). T (ltb (tag k) 7)) e
     (not-other (isDigit b) (isAlphabetic b) (eqb b 95) (eqb b quote) (isWhite b) (eqb b slash) (begins signs b) (begins-mem m))
 
--- the test that a byte of a kind passes
-pub told : (b : ℕ) {k : Kind} → kindOf b ≡ k → Says (beginsWord b) (isDigit b) (eqb b quote) (isWhite b) (eqb b slash) (asKind k)
-told b {k} e = kind-says b (asKind k) (kind-sorted b e)
+-- what the kind of a byte tells of it
+abbrev pub Told : Kind → ℕ → Type 0
+Told Digit b = T (isDigit b)
+Told Alphabetic b = T (beginsWord b)
+Told Underscore b = T (beginsWord b)
+Told Quote b = b ≡ quote
+Told White b = T (isWhite b)
+Told Slash b = b ≡ slash
+Told Sign b = kindOf b ≡ Sign
+Told Other b = kindOf b ≡ Other
+
+tells : (k : Kind) (b : ℕ) → kindOf b ≡ k → Told k b
+tells Digit b e = kind-says b (asKind Digit) (kind-sorted b e)
+tells Alphabetic b e = kind-says b (asKind Alphabetic) (kind-sorted b e)
+tells Underscore b e = kind-says b (asKind Underscore) (kind-sorted b e)
+tells Quote b e = eqb→eq b quote (kind-says b (asKind Quote) (kind-sorted b e))
+tells White b e = kind-says b (asKind White) (kind-sorted b e)
+tells Slash b e = eqb→eq b slash (kind-says b (asKind Slash) (kind-sorted b e))
+tells Sign b e = e
+tells Other b e = e
+
+-- and of one that is sorted so
+pub told : (k : Kind) (b : ℕ) {j : Kind} → j ≡ kindOf b → j ≡ k → Told k b
+told k b e f = tells k b (sym e ∙ f)

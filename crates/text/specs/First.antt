@@ -14,11 +14,12 @@ use Rattle.text.specs.declared.Sign.the-variants as Sign
 use Rattle.text.specs.declared.Token.{Token}
 use Rattle.text.specs.declared.Token.the-variants as Token
 
--- how a word may be written: in one way, if it is reserved
+-- how a word may be written: in one way, if it is reserved, or in any other
 pub data Name : Type 0 where
   reserved : List ℕ → Name
   unreserved : Name
 
+-- how each word is written
 abbrev pub name : Word → Name
 name Word.Alphabet = reserved (spelling "alphabet")
 name Word.DecrOnZero = reserved (spelling "decr_on_zero")
@@ -42,6 +43,7 @@ name Word.Also = reserved (spelling "also")
 name Word.Read = reserved (spelling "read")
 name Word.Other = unreserved
 
+-- these bytes are written so; as no reserved word, if it is not one
 abbrev pub IsNamed : Name → List ℕ → Type 0
 IsNamed (reserved bytes) l = l ≡ bytes
 IsNamed unreserved l = (x : Word) → ¬ (name x ≡ reserved l)
@@ -85,14 +87,15 @@ pub record Next (text : List ℕ) (place end : ℕ) (t : Spec.Token) (tokens : L
   pub within : end ≤ length text
   pub rest : Tokens end (drop end text) after ending
 
--- no token is left
-pub record Last (tokens : List Placed) (ending : Ending) (e : Ending) : Type 0 where
-  pub none : tokens ≡ []
-  pub ended : ending ≡ e
-
+-- the same of a word, which is this one
 pub record NextWord (text : List ℕ) (place end : ℕ) (x : Word) (tokens : List Placed) (ending : Ending) : Type 0 where
   pub next : Next text place end (word (part text place end)) tokens ending
   pub which : IsWord x (part text place end)
+
+-- no token is left, and this is the ending
+pub record Last (tokens : List Placed) (ending : Ending) (e : Ending) : Type 0 where
+  pub none : tokens ≡ []
+  pub ended : ending ≡ e
 
 -- these tokens and this ending begin with what is answered
 abbrev pub Begins : List ℕ → List Placed → Ending → Token → Type 0
@@ -103,7 +106,7 @@ Begins text ts e (Token.Sign place end s) = Next text place end (sign (written s
 Begins text ts e (Token.End place) = Last ts e (ends place)
 Begins text ts e (Token.Broken place) = Last ts e (broken place)
 
--- what comes first in a text from a byte on
+-- what comes first in a text from a byte on: the text has tokens from there, and they begin with it
 pub record First (text : List ℕ) (from : ℕ) (r : Token) : Type 0 where
   pub tokens : List Placed
   pub ending : Ending

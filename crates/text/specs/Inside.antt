@@ -49,7 +49,8 @@ pub data Run (test : ℕ → Bool) (text : List ℕ) : ℕ → ℕ → Type 0 wh
   stop : {i : ℕ} → i < length text → test (getD text i 0) ≡ false → Run test text i i
   on : {i n : ℕ} → i < length text → test (getD text i 0) ≡ true → Run test text (i + 1) n → Run test text i n
 
--- the reserved words as they are compared, the last first: those of the program's head, of plain statements, of statements that hold blocks, and of conditions
+-- the reserved words as they are compared, the last first: those of a program's head, of plain statements, of statements that
+-- hold blocks, and of conditions
 abbrev pub headWords : List Word
 headWords = Word.String ∷ Word.Twoc ∷ Word.False ∷ Word.True ∷ Word.DecrOnZero ∷ Word.Alphabet ∷ []
 
@@ -62,10 +63,11 @@ blockWords = Word.Also ∷ Word.Branch ∷ Word.Choose ∷ Word.While ∷ Word.E
 abbrev pub allWords : List Word
 allWords = Word.Rend ∷ Word.Lend ∷ Word.Read ∷ blockWords
 
+infixr 40 _nor_
 -- these bytes are none of these words
-abbrev pub NoneOf : List Word → List ℕ → Type 0
-NoneOf [] l = Unit {0}
-NoneOf (x ∷ xs) l = ¬ (name x ≡ reserved l) × NoneOf xs l
+pub data NoneOf : List Word → List ℕ → Type 0 where
+  none : {l : List ℕ} → NoneOf [] l
+  _nor_ : {x : Word} {xs : List Word} {l : List ℕ} → ¬ (name x ≡ reserved l) → NoneOf xs l → NoneOf (x ∷ xs) l
 
 -- these bytes are this sign, or no sign
 abbrev pub IsSign : List ℕ → Found → Type 0

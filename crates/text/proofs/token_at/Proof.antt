@@ -26,21 +26,32 @@ enum-known-next c = search needs
 
 loop-less : tie.Need-loop-less Inv-loop μ-loop
 loop-less c =
-    let s = step-blank (c .before .before .before .before .before .before .before .args .text .now) (c .before .before .before .before .before .loop .at) (c .before .next .given .0 .0) (c .before .before .before .step-at .ensures) (c .before .next .given .1) in
+    let t = c .before .before .before in
+    let l = t .before .before in
+    let n = c .before .next .given in
+    let s = step-blank (l .before .before .args .text .now) (l .loop .at) (n .0 .0) (t .step-at .ensures) (n .1) in
     omega (arith, s .onward)
 
 loop-again : tie.Need-loop-again Inv-loop μ-loop
 loop-again c = λ r f.
-    c .before .before .before .before .before .loop .inv r (skips-first (step-blank (c .before .before .before .before .before .before .before .args .text .now) (c .before .before .before .before .before .loop .at) _ (c .before .before .before .step-at .ensures) (c .before .next .given .1)) f)
+    let t = c .before .before .before in
+    let l = t .before .before in
+    l .loop .inv r
+    (skips-first (step-blank (l .before .before .args .text .now) (l .loop .at) _ (t .step-at .ensures) (c .before .next .given .1)) f)
 
 enum-known-token : tie.Need-enum-known-token Inv-loop μ-loop
 enum-known-token c = search needs
 
 returns : tie.Need-returns Inv-loop μ-loop
-returns c = c .before .before .before .before .before .loop .inv _ (step-token (c .before .before .before .before .before .before .before .args .text .now) (c .before .before .before .before .before .loop .at) (c .before .before .before .step-at .ensures) (c .before .token .given .1))
+returns c =
+    let t = c .before .before .before in
+    let l = t .before .before in
+    l .loop .inv _ (step-token (l .before .before .args .text .now) (l .loop .at) (t .step-at .ensures) (c .before .token .given .1))
 
 returns-2 : tie.Need-returns-2 Inv-loop μ-loop
-returns-2 c = c .before .loop .inv _ (end-first (c .before .before .before .args .text .now) (c .before .loop .at) (c .loop-test .left))
+returns-2 c =
+    let l = c .before in
+    l .loop .inv _ (end-first (l .before .before .args .text .now) (l .loop .at) (c .loop-test .left))
 
 pub token-at-spec : {M : Type 1} → statement M
 token-at-spec =

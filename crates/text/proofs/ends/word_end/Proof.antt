@@ -27,7 +27,8 @@ in-word-requires c κs = search needs
 
 returns : tie.Need-returns Inv-loop μ-loop
 returns c =
-    c .before .before .before .before .loop .inv _ (stop (c .before .before .before .loop-test .taken) (sym (c .before .in-word .ensures) ∙ not-true _ (c .if1 .taken)))
+    let t = c .before .before .before in
+    t .before .loop .inv _ (stop (t .loop-test .taken) (sym (c .before .in-word .ensures) ∙ not-true _ (c .if1 .taken)))
 
 add-i : tie.Need-add-i Inv-loop μ-loop
 add-i c = omega arith
@@ -37,7 +38,8 @@ loop-less c = omega arith
 
 loop-again : tie.Need-loop-again Inv-loop μ-loop
 loop-again c = λ n r.
-    c .before .before .before .before .loop .inv n (on (c .before .before .before .loop-test .taken) (sym (c .before .in-word .ensures) ∙ not-false _ (c .if1 .left)) r)
+    let t = c .before .before .before in
+    t .before .loop .inv n (on (t .loop-test .taken) (sym (c .before .in-word .ensures) ∙ not-false _ (c .if1 .left)) r)
 
 returns-2 : tie.Need-returns-2 Inv-loop μ-loop
 returns-2 c = c .before .loop .inv _ (over (c .loop-test .left))

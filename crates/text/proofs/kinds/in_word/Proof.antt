@@ -10,10 +10,16 @@ kind-of-requires : tie.Need-kind-of-requires
 kind-of-requires c κs = search needs
 
 returns : tie.Need-returns
-returns c = sym (kind-decides (c .before .before .args .b) _ (c .before .kind-of .ensures) .word ∙ among 3 (0 ∷ 1 ∷ 2 ∷ []) (c .before .kind-of .result) tt (c .match .keys1))
+returns c =
+    let k = c .before in
+    let d = kind-decides (k .before .args .b) (k .kind-of .result) (k .kind-of .ensures) in
+    sym (d .word ∙ among 3 (0 ∷ 1 ∷ 2 ∷ []) (k .kind-of .result) tt (c .match .keys1))
 
 returns-2 : tie.Need-returns-2
-returns-2 c = sym (kind-decides (c .before .before .args .b) _ (c .before .kind-of .ensures) .word ∙ beyond 3 (3 ∷ 4 ∷ 5 ∷ 6 ∷ 7 ∷ []) (c .before .kind-of .result) tt (c .match .keys2))
+returns-2 c =
+    let k = c .before in
+    let d = kind-decides (k .before .args .b) (k .kind-of .result) (k .kind-of .ensures) in
+    sym (d .word ∙ beyond 3 (3 ∷ 4 ∷ 5 ∷ 6 ∷ 7 ∷ []) (k .kind-of .result) tt (c .match .keys2))
 
 pub in-word-spec : {M : Type 1} → statement M
 in-word-spec = tie.close (tie.spec kind-of-requires returns returns-2)

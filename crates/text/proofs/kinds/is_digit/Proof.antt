@@ -13,10 +13,16 @@ enum-told : tie.Need-enum-told
 enum-told c = search needs
 
 returns : tie.Need-returns
-returns c = sym (kind-decides (c .before .before .before .args .b) _ (c .before .before .kind-of .ensures) .digit ∙ among 1 (0 ∷ []) (c .before .before .kind-of .result) tt (c .before .match .keys1))
+returns c =
+    let k = c .before .before in
+    let d = kind-decides (k .before .args .b) (k .kind-of .result) (k .kind-of .ensures) in
+    sym (d .digit ∙ among 1 (0 ∷ []) (k .kind-of .result) tt (c .before .match .keys1))
 
 returns-2 : tie.Need-returns-2
-returns-2 c = sym (kind-decides (c .before .before .args .b) _ (c .before .kind-of .ensures) .digit ∙ beyond 1 (1 ∷ 2 ∷ 3 ∷ 4 ∷ 5 ∷ 6 ∷ 7 ∷ []) (c .before .kind-of .result) tt (c .match .keys2))
+returns-2 c =
+    let k = c .before in
+    let d = kind-decides (k .before .args .b) (k .kind-of .result) (k .kind-of .ensures) in
+    sym (d .digit ∙ beyond 1 (1 ∷ 2 ∷ 3 ∷ 4 ∷ 5 ∷ 6 ∷ 7 ∷ []) (k .kind-of .result) tt (c .match .keys2))
 
 pub is-digit-spec : {M : Type 1} → statement M
 is-digit-spec = tie.close (tie.spec kind-of-requires enum-told returns returns-2)

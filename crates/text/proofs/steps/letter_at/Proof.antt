@@ -11,7 +11,9 @@ sub-if1 : tie.Need-sub-if1
 sub-if1 c = search needs
 
 returns : tie.Need-returns
-returns c = letter-short (c .before .before .args .text .now) (c .before .before .args .at) (c .before .before .pre .0) (c .before .before .pre .1) (c .if1 .taken)
+returns c =
+    let s = c .before .before in
+    letter-short (s .args .text .now) (s .args .at) (s .pre .0) (s .pre .1) (c .if1 .taken)
 
 add-byte : tie.Need-add-byte
 add-byte c = search needs
@@ -23,7 +25,10 @@ is-letter-requires : tie.Need-is-letter-requires
 is-letter-requires c κs = search needs
 
 returns-2 : tie.Need-returns-2
-returns-2 c = letter-other (c .before .before .before .before .before .args .text .now) (c .before .before .before .before .before .args .at) (c .before .before .before .before .before .pre .0) (c .before .before .before .before .before .pre .1) (omega arith) (sym (c .before .is-letter .ensures) ∙ not-true _ (c .if2 .taken))
+returns-2 c =
+    let s = c .before .before .before .before .before in
+    let other = sym (c .before .is-letter .ensures) ∙ not-true _ (c .if2 .taken) in
+    letter-other (s .args .text .now) (s .args .at) (s .pre .0) (s .pre .1) (omega arith) other
 
 add-if3 : tie.Need-add-if3
 add-if3 c = search needs
@@ -32,13 +37,21 @@ shared-slice-read-if3 : tie.Need-shared-slice-read-if3
 shared-slice-read-if3 c = search needs
 
 returns-3 : tie.Need-returns-3
-returns-3 c = letter-open (c .before .before .before .before .before .before .before .args .text .now) (c .before .before .before .before .before .before .before .args .at) (c .before .before .before .before .before .before .before .pre .0) (c .before .before .before .before .before .before .before .pre .1) (omega arith) (sym (c .before .before .before .is-letter .ensures) ∙ not-false _ (c .before .before .if2 .left)) (c .if3 .taken)
+returns-3 c =
+    let t = c .before .before in
+    let s = t .before .before .before .before .before in
+    let letter = sym (t .before .is-letter .ensures) ∙ not-false _ (t .if2 .left) in
+    letter-open (s .args .text .now) (s .args .at) (s .pre .0) (s .pre .1) (omega arith) letter (c .if3 .taken)
 
 add-t4 : tie.Need-add-t4
 add-t4 c = search needs
 
 returns-4 : tie.Need-returns-4
-returns-4 c = letter-first (c .before .before .before .before .before .before .before .args .text .now) (c .before .before .before .before .before .before .before .args .at) (c .before .before .before .before .before .before .before .pre .0) (c .before .before .before .before .before .before .before .pre .1) (omega arith) (sym (c .before .before .before .is-letter .ensures) ∙ not-false _ (c .before .before .if2 .left)) (c .if3 .left)
+returns-4 c =
+    let t = c .before .before in
+    let s = t .before .before .before .before .before in
+    let letter = sym (t .before .is-letter .ensures) ∙ not-false _ (t .if2 .left) in
+    letter-first (s .args .text .now) (s .args .at) (s .pre .0) (s .pre .1) (omega arith) letter (c .if3 .left)
 
 pub letter-at-spec : {M : Type 1} → statement M
 letter-at-spec =

@@ -11,7 +11,9 @@ number-end-requires : tie.Need-number-end-requires
 number-end-requires c κs = search needs
 
 returns : tie.Need-returns
-returns c = number-first (c .before .before .args .text .now) (c .before .before .args .at) (c .before .before .pre .0) (c .before .before .pre .1) (c .number-end .ensures)
+returns c =
+    let s = c .before .before in
+    number-first (s .args .text .now) (s .args .at) (s .pre .0) (s .pre .1) (c .number-end .ensures)
 
 pub number-at-spec : {M : Type 1} → statement M
 number-at-spec = tie.close (tie.spec add-number-end number-end-requires returns)

@@ -1,6 +1,4 @@
 -- `text::steps::sign_at` meets its contract: the longest sign is the pair, or else the single byte.
-use lib.ListN.{getD}
-use Rattle.text.proofs.Sorting.{kind-sorted}
 use Rattle.text.proofs.Standing.{pair-first, single-first, neither-first}
 use borrow.Author.Needs.{needs}
 use Rattle.text.proofs.steps.sign_at.Statement.{statement}
@@ -40,13 +38,27 @@ enum-told-2 : tie.Need-enum-told-2
 enum-told-2 c = search needs
 
 returns : tie.Need-returns
-returns c = pair-first (c .before .before .before .before .before .before .before .args .text .now) (c .before .before .before .before .before .before .before .args .at) (c .before .before .before .before .before .before .before .pre .0) (kind-sorted (getD (c .before .before .before .before .before .before .before .args .text .now) (c .before .before .before .before .before .before .before .args .at) 0) (c .before .before .before .before .before .before .before .pre .1)) _ (c .before .before .before .before .byte-at .ensures) (c .before .before .before .pair .ensures) _ (c .before .sign .given .1)
+returns c =
+    let t = c .before .before .before in
+    let s = t .before .before .before .before in
+    pair-first (s .args .text .now) (s .args .at) (s .pre .0) (s .pre .1) (t .before .byte-at .ensures) (t .pair .ensures)
+    _ (c .before .sign .given .1)
 
 returns-2 : tie.Need-returns-2
-returns-2 c = single-first (c .before .before .before .before .before .before .before .before .before .before .args .text .now) (c .before .before .before .before .before .before .before .before .before .before .args .at) (c .before .before .before .before .before .before .before .before .before .before .pre .0) (kind-sorted (getD (c .before .before .before .before .before .before .before .before .before .before .args .text .now) (c .before .before .before .before .before .before .before .before .before .before .args .at) 0) (c .before .before .before .before .before .before .before .before .before .before .pre .1)) _ (c .before .before .before .before .before .before .before .byte-at .ensures) (c .before .before .before .before .before .before .pair .ensures) _ (c .before .before .before .before .enum-told .given .1) (c .before .before .before .single .ensures) (c .before .sign2 .given .1)
+returns-2 c =
+    let o = c .before .before .before in
+    let t = o .before .before .before in
+    let s = t .before .before .before .before in
+    single-first (s .args .text .now) (s .args .at) (s .pre .0) (s .pre .1) (t .before .byte-at .ensures) (t .pair .ensures)
+    _ (o .before .enum-told .given .1) (o .single .ensures) (c .before .sign2 .given .1)
 
 returns-3 : tie.Need-returns-3
-returns-3 c = neither-first (c .before .before .before .before .before .before .before .before .before .args .text .now) (c .before .before .before .before .before .before .before .before .before .args .at) (c .before .before .before .before .before .before .before .before .before .pre .0) (kind-sorted (getD (c .before .before .before .before .before .before .before .before .before .args .text .now) (c .before .before .before .before .before .before .before .before .before .args .at) 0) (c .before .before .before .before .before .before .before .before .before .pre .1)) _ (c .before .before .before .before .before .before .byte-at .ensures) (c .before .before .before .before .before .pair .ensures) (c .before .before .before .enum-told .given .1) (c .before .before .single .ensures) (c .enum-told2 .given .1)
+returns-3 c =
+    let o = c .before .before in
+    let t = o .before .before .before in
+    let s = t .before .before .before .before in
+    neither-first (s .args .text .now) (s .args .at) (s .pre .0) (s .pre .1) (t .before .byte-at .ensures) (t .pair .ensures)
+    (o .before .enum-told .given .1) (o .single .ensures) (c .enum-told2 .given .1)
 
 pub sign-at-spec : {M : Type 1} → statement M
 sign-at-spec =

@@ -12,7 +12,9 @@ byte-at-requires : tie.Need-byte-at-requires
 byte-at-requires c κs = search needs
 
 returns : tie.Need-returns
-returns c = slash-bad (c .before .before .before .args .text .now) (c .before .before .before .args .at) (c .before .before .before .pre .0) (c .before .before .before .pre .1) (λ e. c .if1 .taken (c .before .byte-at .ensures ∙ e))
+returns c =
+    let s = c .before .before .before in
+    slash-bad (s .args .text .now) (s .args .at) (s .pre .0) (s .pre .1) (λ e. c .if1 .taken (c .before .byte-at .ensures ∙ e))
 
 add-comment-end : tie.Need-add-comment-end
 add-comment-end c = search needs
@@ -21,7 +23,11 @@ comment-end-requires : tie.Need-comment-end-requires
 comment-end-requires c κs = search needs
 
 returns-2 : tie.Need-returns-2
-returns-2 c = comment-skips (c .before .before .before .before .args .text .now) (c .before .before .before .before .args .at) (c .before .before .before .before .pre .0) (c .before .before .before .before .pre .1) (sym (c .before .before .byte-at .ensures) ∙ c .before .if1 .left) (c .comment-end .ensures)
+returns-2 c =
+    let t = c .before in
+    let s = t .before .before .before in
+    let second = sym (t .before .byte-at .ensures) ∙ t .if1 .left in
+    comment-skips (s .args .text .now) (s .args .at) (s .pre .0) (s .pre .1) second (c .comment-end .ensures)
 
 pub slash-at-spec : {M : Type 1} → statement M
 slash-at-spec =

@@ -24,7 +24,10 @@ word-of-requires : tie.Need-word-of-requires
 word-of-requires c κs = search needs
 
 returns : tie.Need-returns
-returns c = word-first (c .before .before .before .before .args .text .now) (c .before .before .before .before .args .at) (c .before .before .before .before .pre .0) (c .word-of .result) (c .before .before .before .before .pre .1) (c .before .before .word-end .ensures) (c .word-of .ensures)
+returns c =
+    let e = c .before .before in
+    let s = e .before .before in
+    word-first (s .args .text .now) (s .args .at) (s .pre .0) (c .word-of .result) (s .pre .1) (e .word-end .ensures) (c .word-of .ensures)
 
 pub word-at-spec : {M : Type 1} → statement M
 word-at-spec =

@@ -1,5 +1,6 @@
 -- `text::words::condition_word` meets its contract: bytes that compare equal are that word, and those that differ from all are another.
 use borrow.Author.Needs.{needs}
+use Rattle.text.specs.Inside.{_nor_}
 use Rattle.text.proofs.Named.{differs, none-of-all}
 use Rattle.text.proofs.words.condition_word.Statement.{statement}
 use Rattle.text.proofs.words.condition_word.Tie as tie
@@ -32,16 +33,14 @@ returns-3 : tie.Need-returns-3
 returns-3 c = c .before .same3 .ensures .0 (c .if3 .taken)
 
 returns-4 : tie.Need-returns-4
-returns-4 c = none-of-all (
-  differs (c .before .same3 .ensures .1) (c .if3 .left),
-  (
-    differs (c .before .before .before .before .same2 .ensures .1) (c .before .before .before .if2 .left),
-    (
-      differs (c .before .before .before .before .before .before .before .same .ensures .1) (c .before .before .before .before .before .before .if1 .left),
-      c .before .before .before .before .before .before .before .before .before .before .pre,
-    ),
-  ),
-)
+returns-4 c =
+    let c2 = c .before .before .before in
+    let c1 = c2 .before .before .before in
+    none-of-all
+    (differs (c .before .same3 .ensures .1) (c .if3 .left)
+    nor differs (c2 .before .same2 .ensures .1) (c2 .if2 .left)
+    nor differs (c1 .before .same .ensures .1) (c1 .if1 .left)
+    nor c1 .before .before .before .before .pre)
 
 pub condition-word-spec : {M : Type 1} → statement M
 condition-word-spec =

@@ -1,5 +1,6 @@
 -- `text::words::plain_word` meets its contract: bytes that compare equal are that word, and those that differ from all are handed on as none of them.
 use borrow.Author.Needs.{needs}
+use Rattle.text.specs.Inside.{_nor_}
 use Rattle.text.proofs.Named.{differs}
 use Rattle.text.proofs.words.plain_word.Statement.{statement}
 use Rattle.text.proofs.words.plain_word.Tie as tie
@@ -50,22 +51,17 @@ returns-5 : tie.Need-returns-5
 returns-5 c = c .before .same5 .ensures .0 (c .if5 .taken)
 
 block-word-requires : tie.Need-block-word-requires
-block-word-requires c κs = (
-  differs (c .before .same5 .ensures .1) (c .if5 .left),
-  (
-    differs (c .before .before .before .before .same4 .ensures .1) (c .before .before .before .if4 .left),
-    (
-      differs (c .before .before .before .before .before .before .before .same3 .ensures .1) (c .before .before .before .before .before .before .if3 .left),
-      (
-        differs (c .before .before .before .before .before .before .before .before .before .before .same2 .ensures .1) (c .before .before .before .before .before .before .before .before .before .if2 .left),
-        (
-          differs (c .before .before .before .before .before .before .before .before .before .before .before .before .before .same .ensures .1) (c .before .before .before .before .before .before .before .before .before .before .before .before .if1 .left),
-          c .before .before .before .before .before .before .before .before .before .before .before .before .before .before .before .before .pre,
-        ),
-      ),
-    ),
-  ),
-)
+block-word-requires c κs =
+    let c4 = c .before .before .before in
+    let c3 = c4 .before .before .before in
+    let c2 = c3 .before .before .before in
+    let c1 = c2 .before .before .before in
+    differs (c .before .same5 .ensures .1) (c .if5 .left)
+    nor differs (c4 .before .same4 .ensures .1) (c4 .if4 .left)
+    nor differs (c3 .before .same3 .ensures .1) (c3 .if3 .left)
+    nor differs (c2 .before .same2 .ensures .1) (c2 .if2 .left)
+    nor differs (c1 .before .same .ensures .1) (c1 .if1 .left)
+    nor c1 .before .before .before .before .pre
 
 returns-6 : tie.Need-returns-6
 returns-6 c = c .block-word .ensures
