@@ -1,5 +1,6 @@
 -- Judging has one result: the number and the marks are settled by the image, the word, the limit and the marks before.
-use Prim.Native.Nat.{ℕ, _≤_, _<_}
+use Prim.Native.Nat.{ℕ, _+_, _*_, _/_, _≤_, _<_}
+use native.Mathlib.Nat.{le-refl, add-le-add, mul-le-mul}
 use native.Mathlib.Omega.{arith}
 use mathlib.Core.Path.{_≡_, sym, ap, ap₂, _∙_, subst}
 use mathlib.Core.List.{List, List·Memᴰ}
@@ -10,12 +11,13 @@ use Rattle.table.specs.WellFormed.{IsImage}
 use Rattle.table.specs.Fields.{tableOf}
 use Rattle.table.proofs.Image.{table-once}
 use Rattle.table.proofs.Refusal.{Single, Gives, Each, single-because, single-at-zero, first-once, first-has}
-use Rattle.machine.specs.Run.{Reach}
-use Rattle.judge.specs.Verdict.{Verdict, IsVerdict}
+use Rattle.machine.specs.Run.{Reach, Accepts}
+use Rattle.machine.proofs.Run.{no-everywhere}
+use Rattle.judge.specs.Verdict.{Verdict, Yes, No, LimitMet, verdictNumber, IsVerdict}
 use Rattle.judge.specs.Marks.{Marks}
 use Rattle.judge.specs.Judge.{FirstOutside, reasons, Judgeable, Answer, judged, refused, answerNumber, Judged, Refused, AnswerRight, Judges}
 use Rattle.judge.specs.Inner.{RefusedAs, Undecided, Decided}
-use Rattle.judge.proofs.Verdict.{verdict-once, verdict-never-zero}
+use Rattle.judge.proofs.Verdict.{verdict-once, verdict-never-zero, count-at-most}
 use Rattle.judge.proofs.Marks.{marks-once}
 
 -- a letter of the one table of an image is a letter of the other
@@ -47,8 +49,8 @@ no-reason
 no-reason image word limit before {t} j =
     (λ n p r. r .1 .1 (t, j .isImage), (λ n p r. omega arith, (λ n p r. all-letters j (r .1), (λ n p r. omega arith, (λ n p r. r .1 .1 (j .room), tt)))))
 
--- every reason to refuse gives a number above 0
-reasons-numbered : (image word : List ℕ) (limit : ℕ) (before : List ℕ) → Each (Gives (λ n p. 1 ≤ n)) (reasons image word limit before)
+-- every reason to refuse gives a number from 21 on
+reasons-numbered : (image word : List ℕ) (limit : ℕ) (before : List ℕ) → Each (Gives (λ n p. 21 ≤ n)) (reasons image word limit before)
 reasons-numbered image word limit before = omega arith
 
 module _ {image word : List ℕ} {limit : ℕ} {before after after′ : List ℕ} where
@@ -100,7 +102,7 @@ answer-never-zero
 unfolding answerNumber
 answer-never-zero image word limit before after (judged v c) a = omega (arith, verdict-never-zero v)
 answer-never-zero image word limit before after (refused n p) a =
-    omega (arith, first-has (λ n p. 1 ≤ n) (reasons image word limit before) (reasons-numbered image word limit before) (a .first))
+    omega (arith, first-has (λ n p. 21 ≤ n) (reasons image word limit before) (reasons-numbered image word limit before) (a .first))
 
 -- judging never gives 0
 pub judges-never-zero
@@ -141,3 +143,39 @@ judgeable-undecided j = record {
   ready = record { range = j .isImage .inRange; short = j .short; low = j .low };
   room = j .room;
 }
+
+-- a no is a no at every height of the counter
+pub no-at-every-height
+    : {image word : List ℕ} {limit : ℕ} {before after : List ℕ} {count : ℕ} → Judged image word limit before after No count
+    → {t : Table} → IsImage t image → (M : ℕ) → ¬ Accepts t word M
+no-at-every-height {word = word} a is M =
+    subst (λ (t : Table). ¬ Accepts t word M) (table-once (a .judgeable .isImage) is) (no-everywhere (a .verdict .0) (a .verdict .1) M)
+
+-- the count of what is judged is below a million, so the number tells the verdict
+count-small
+    : {image word : List ℕ} {limit : ℕ} {before after : List ℕ} {v : Verdict} {count : ℕ} → Judged image word limit before after v count → count < 1000000
+count-small a =
+    let j = a .judgeable in
+    omega (
+      arith,
+      count-at-most (j .isImage .inRange) (a .count),
+      mul-le-mul (mul-le-mul (j .isImage .inRange .fewStates) (add-le-add (j .short) (le-refl 2))) (add-le-add (j .low) (le-refl 1)),
+    )
+
+-- the answer whose number begins with 2 is a no
+answer-no
+    : (image word : List ℕ) (limit : ℕ) (before after : List ℕ) (a : Answer) → AnswerRight image word limit before after a → answerNumber a / 1000000 ≡ 2
+    → (count : ℕ) × Judged image word limit before after No count
+unfolding answerNumber verdictNumber
+answer-no image word limit before after (judged Yes count) a two = absurd (omega (arith, count-small a))
+answer-no image word limit before after (judged No count) a two = (count, a)
+answer-no image word limit before after (judged LimitMet count) a two = absurd (omega (arith, count-small a))
+answer-no image word limit before after (refused n p) a two =
+    absurd (omega (arith, first-has (λ n p. 21 ≤ n) (reasons image word limit before) (reasons-numbered image word limit before) (a .first)))
+
+-- so where the judge says no, no run accepts, however high the counter may go
+pub says-no
+    : {image word : List ℕ} {limit : ℕ} {before after : List ℕ} {r : ℕ} → Judges image word limit before after r → r / 1000000 ≡ 2
+    → {t : Table} → IsImage t image → (M : ℕ) → ¬ Accepts t word M
+says-no {image} {word} {limit} {before} {after} j two =
+    no-at-every-height (answer-no image word limit before after (j .answer) (j .right) (rw (← (j .number)) two) .1)

@@ -1,11 +1,13 @@
 -- What stands on a cell and where a move leads, case by case.
 use Prim.Native.Nat.{ℕ, zero, suc, _+_, _-_, _≤_, _<_, min}
 use native.Mathlib.Omega.{arith}
-use mathlib.Core.Path.{_≡_, refl, sym, ap, subst, _∙_}
-use mathlib.Core.Bool.{cond}
+use mathlib.Core.Path.{_≡_, refl, sym, ap, _∙_}
 use mathlib.Core.List.{List}
 use lib.ListN.{length, getD}
 use borrow.Author.Tests.{lt-ltb, le-ltb, eq-eqb, ne-eqb}
+use Rattle.machine.specs.declared.Symbol as Code
+use Rattle.machine.specs.declared.Symbol.the-variants as Variants
+use Rattle.machine.specs.Code.{symbolIs}
 use Rattle.machine.specs.Cell.{Symbol, leftMark, letter, rightMark, last, symbolOn, moved}
 
 one-less : (n : ℕ) → suc n - 1 ≡ n
@@ -50,3 +52,19 @@ pub moves-back
     : (w : List ℕ) (code cell from by : ℕ) → ¬ (code ≡ 0) → ¬ (code ≡ 128) → from ≡ min cell (last w) → by ≡ code → from + by ≤ 64
     → moved w code cell ≡ 0
 moves-back w code cell from by left right start way low = omega (arith, moves-by w code cell from by left right start way)
+
+-- a symbol of the definitions is one symbol of the code
+codeOf : Symbol → Code.Symbol
+codeOf leftMark = Variants.LeftMark
+codeOf (letter b) = Variants.Letter b
+codeOf rightMark = Variants.RightMark
+
+code-of : (a : Code.Symbol) → codeOf (symbolIs a) ≡ a
+unfolding codeOf symbolIs
+code-of Variants.LeftMark = refl
+code-of (Variants.Letter b) = refl
+code-of Variants.RightMark = refl
+
+-- so looking at a cell has one answer
+pub looked-once : {a b : Code.Symbol} (w : List ℕ) (cell : ℕ) → symbolIs a ≡ symbolOn w cell → symbolIs b ≡ symbolOn w cell → a ≡ b
+looked-once {a} {b} w cell x y = sym (code-of a) ∙ ap codeOf (x ∙ sym y) ∙ code-of b
