@@ -32,19 +32,6 @@ tells-test test same = record {
   fails = λ e t. subst T (sym same ∙ e) t;
 }
 
--- tests of numbers
-pub tells-eqb : (a b : ℕ) → Tells (eqb a b) (a ≡ b)
-tells-eqb a b = record { holds = eqb-true a b; fails = eqb-false a b }
-
-pub tells-leb : (a b : ℕ) → Tells (leb a b) (a ≤ b)
-tells-leb a b = record { holds = leb-true a b; fails = λ e l. not-le-of-lt (leb-false a b e) l }
-
-pub tells-ltb : (a b : ℕ) → Tells (ltb a b) (a < b)
-tells-ltb a b = record { holds = ltb-true a b; fails = λ e l. not-le-of-lt l (ltb-false a b e) }
-
--- a loop that has passed all numbers below n, and one that stops at a number
+-- a loop that has passed all numbers below n
 pub tells-all : {P : ℕ → Type 0} (n i : ℕ) → n ≤ i → ((j : ℕ) → j < i → P j) → Tells true ((j : ℕ) → j < n → P j)
 tells-all n i end passed = tells-yes refl (λ j low. passed j (lt-of-lt-of-le low end))
-
-pub tells-stop : {P : ℕ → Type 0} (n i : ℕ) → i < n → ¬ P i → Tells false ((j : ℕ) → j < n → P j)
-tells-stop n i low fails = tells-no refl (λ all. fails (all i low))
