@@ -1,10 +1,11 @@
 -- When a test tells whether something holds.
 use Prim.Native.Nat.{ℕ, _≤_, _<_}
-use native.Mathlib.Nat.{lt-of-lt-of-le, not-le-of-lt}
+use native.Mathlib.Nat.{lt-of-lt-of-le}
 use mathlib.Core.Path.{_≡_, refl, sym, subst, _∙_}
 use mathlib.Core.Bool.{Bool, true, false, not, true≢false}
-use borrow.Author.Tests.{not-true, not-false, eqb-true, eqb-false, leb-true, leb-false, ltb-true, ltb-false}
-use lib.Dec.{T, eqb, leb, ltb}
+use borrow.Author.Tests.{not-true, not-false, le-leb, lt-leb}
+use lib.Dec.{T}
+use Rattle.bits.specs.Byte.{between}
 use Rattle.table.specs.Fields.{Tells}
 
 -- a result that is known
@@ -31,6 +32,16 @@ tells-test test same = record {
   holds = λ e. subst T (sym (sym same ∙ e)) tt;
   fails = λ e t. subst T (sym same ∙ e) t;
 }
+
+-- whether a byte is inside a range, below it or above it
+pub range-inside : (low high b : ℕ) → low ≤ b → b ≤ high → between low high b ≡ true
+range-inside low high b above below = simp (le-leb low b above, le-leb b high below)
+
+pub range-below : (low high b : ℕ) → b < low → between low high b ≡ false
+range-below low high b below = simp (lt-leb low b below)
+
+pub range-above : (low high b : ℕ) → low ≤ b → high < b → between low high b ≡ false
+range-above low high b above over = simp (le-leb low b above, lt-leb b high over)
 
 -- a loop that has passed all numbers below n
 pub tells-all : {P : ℕ → Type 0} (n i : ℕ) → n ≤ i → ((j : ℕ) → j < i → P j) → Tells true ((j : ℕ) → j < n → P j)
