@@ -1,17 +1,27 @@
 -- What a reader relies on that goes through a text from token to token.
 use Prim.Native.Nat.{ℕ, _+_, _≤_, _<_}
 use native.Mathlib.Omega.{arith}
-use mathlib.Core.Path.{_≡_, ap, _∙_, subst}
+use mathlib.Core.Path.{_≡_, sym, ap, _∙_, subst}
 use mathlib.Core.List.{List, [], _∷_}
 use lib.ListN.{length, drop, length-drop}
 use Rattle.text.specs.Token.{word}
 use Rattle.text.specs.Tokens.{Placed, _at_, Ending, ends, broken, Tokens}
 use Rattle.text.specs.Tokens as Of
-use Rattle.text.specs.First.{Name, reserved, name, IsNamed, part, NextWord, Begins, First}
+use Rattle.text.specs.First.{Name, reserved, name, IsNamed, IsWord, part, NextWord, Begins, First}
 use Rattle.text.specs.declared.Token.{Token}
 use Rattle.text.specs.declared.Token.the-variants as Token
 use Rattle.text.specs.declared.Word.{Word}
+use Rattle.text.specs.declared.Word.the-variants as Word
+use Rattle.text.proofs.Once.{comes}
 use Rattle.text.proofs.Tokens.{EndsAt, ends-from}
+
+-- the tokens from a byte on begin with what is answered there, once it is matched
+pub follows : {text : List ℕ} {p : ℕ} {r s : Token} {ts : List Placed} {e : Ending}
+    → Tokens p (drop p text) ts e
+    → First text p r
+    → r ≡ s
+    → Begins text ts e s
+follows {text} {p} h f e = comes h (subst (First text p) e f)
 
 -- where an answer stands
 abbrev pub placeOf : Token → ℕ
@@ -66,3 +76,7 @@ pub reserved-next : {text : List ℕ} {p q : ℕ} {x : Word} {ts : List Placed} 
     → ts ≡ (word l at p) ∷ n .next .after
 reserved-next {text} {p} {q} {x} n e =
     n .next .first ∙ ap (λ (l : List ℕ). (word l at p) ∷ n .next .after) (subst (λ (m : Name). IsNamed m (part text p q)) e (n .which))
+
+-- and another word is none of those
+pub other-word : (x : Word) {l n : List ℕ} → IsWord Word.Other l → name x ≡ reserved n → ¬ (l ≡ n)
+other-word x h e same = h x (e ∙ ap reserved (sym same))
