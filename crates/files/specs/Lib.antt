@@ -1,0 +1,2 @@
+-- What reading answers.
+pub mod Within
