@@ -5,3 +5,6 @@ pub mod Machine
 pub mod Steps
 pub mod Far
 pub mod Complete
+pub mod Counting
+pub mod Tally
+pub mod Sound

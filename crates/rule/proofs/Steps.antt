@@ -30,7 +30,7 @@ abbrev pub state : (st : Stack) → Far → (Values st → Program) → State
 state st s k = record { stack = st; far = s; build = k }
 
 -- one more fault, if the limit is broken
-abbrev pub noted : Bool → ℕ → ℕ → List Fault → List Fault
+unfoldable pub noted : Bool → ℕ → ℕ → List Fault → List Fault
 noted true n p fs = fs ++ (fault n p ∷ [])
 noted false n p fs = fs
 
@@ -42,11 +42,11 @@ abbrev pub _>>=_ : {A B : Type 0} → Option A → (A → Option B) → Option B
 _>>=_ none f = none
 _>>=_ (some a) f = f a
 
-abbrev follow : (x : Symbol) (st : Stack) → Far → (Values (x ∷ st) → Program) → ℕ → Move (Value x) → State
+abbrev pub follow : (x : Symbol) (st : Stack) → Far → (Values (x ∷ st) → Program) → ℕ → Move (Value x) → State
 follow x st s k p m = state (m .push ++ st) (moved m p s) (λ vs. k (m .makes st vs))
 
 unfoldable pub stepOn : (st : Stack) → Far → (Values st → Program) → Placed → Option State
-unfolding move
+unfolding move noted
 stepOn [] s k (u at p) = none
 stepOn (x ∷ st) s k (u at p) = move x (s .totals) (u at p) >>= λ m. some (follow x st s k p m)
 
@@ -79,7 +79,7 @@ view-limit : (x : Symbol) (st : Stack) (s : Far) (k : Values (x ∷ st) → Prog
     → m .breaks ≡ b
     → move x (s .totals) (u at p) ≡ some m
     → View (state (x ∷ st) s k) u p (some (follow x st s k p m))
-unfolding run
+unfolding run noted
 view-limit x st s k u p m true e h = breaks {y = follow x st s k p m} (m .fault) (rw e refl) (λ us f. rw (h, run) (rw e refl))
 view-limit x st s k u p m false e h = passes {y = follow x st s k p m} (rw e refl) (λ us f. rw (h, run) (rw e refl))
 
