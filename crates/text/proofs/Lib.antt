@@ -2,5 +2,7 @@
 pub mod Scan
 pub mod Same
 pub mod Runs
+pub mod Reach
 pub mod Front
 pub mod Tokens
+pub mod Rising

@@ -1,25 +1,28 @@
 -- Laws of a run of bytes that pass a test, and of the longest of some lists with which the bytes begin.
-use Prim.Native.Nat.{ℕ, zero, suc, _+_, _≤_, _<_, max, zero-le, suc-le-suc}
+use Prim.Native.Nat.{ℕ, suc, _≤_, _<_, max, zero-le, suc-le-suc}
 use native.Mathlib.Omega.{arith}
 use native.Mathlib.Decide.{decLe}
-use mathlib.Core.Path.{_≡_, refl, sym, ap, _∙_, subst}
+use mathlib.Core.Path.{_≡_, refl, ap, ap₂, _∙_}
 use mathlib.Core.Bool.{Bool, true, false, not, cond, _&&_, _||_}
 use mathlib.Core.Logic.{_⊎_, inl, inr}
 use mathlib.Core.List.{List, [], _∷_, _++_, List·Memᴰ, List·Memᴰ·head, List·Memᴰ·tail}
-use lib.ListN.{length, take, drop, length-take}
+use lib.ListN.{length, take, drop, getD, length-take, drop-of-length-le}
+use lib.Seq.{drop-cons}
 use lib.Dec.{T, eqb, eqb-refl, eqb→eq}
 use Rattle.text.specs.Token.{every}
 use Rattle.text.proofs.Scan.{run, starts, longestOf}
 
--- a test that passes is true, and one that does not is false
+-- a test that passes is true
 pub T-true : (b : Bool) → T b → b ≡ true
 T-true true t = refl
 T-true false t = absurd t
 
+-- one whose negation passes is false
 pub T-false : (b : Bool) → T (not b) → b ≡ false
 T-false true t = absurd t
 T-false false t = refl
 
+-- a test that is true passes
 pub true-T : {b : Bool} → b ≡ true → T b
 true-T e = rw e tt
 
@@ -59,6 +62,7 @@ module _ (test : ℕ → Bool) where
   ran-step b bs true e r = rw (run-pass b bs e) record { passes = rw e (r .passes); ends = r .ends; fits = suc-le-suc (r .fits) }
   ran-step b bs false e r = rw (run-fail b bs e) record { passes = tt; ends = rw e tt; fits = zero-le }
 
+  -- the run is such
   pub run-ran : (bs : List ℕ) → Ran bs (run test bs)
   unfolding run
   run-ran [] = record { passes = tt; ends = tt; fits = zero-le }
@@ -68,8 +72,8 @@ module _ (test : ℕ → Bool) where
   pub run-longest : (l r : List ℕ) → T (every test l) → length l ≤ run test (l ++ r)
   run-longest [] r t = zero-le
   run-longest (b ∷ bs) r t =
-      rw (run-pass b (bs ++ r) (T-true (test b) (T-both (test b) (every test bs) t .0)))
-      (suc-le-suc (run-longest bs r (T-both (test b) (every test bs) t .1)))
+      let both = T-both (test b) (every test bs) t in
+      rw (run-pass b (bs ++ r) (T-true (test b) (both .0))) (suc-le-suc (run-longest bs r (both .1)))
 
   -- and are all of it where they are stopped
   pub run-is : (l r : List ℕ) → T (every test l) → T (stops test r) → run test (l ++ r) ≡ length l
@@ -77,21 +81,37 @@ module _ (test : ℕ → Bool) where
   run-is [] [] t u = refl
   run-is [] (b ∷ bs) t u = run-fail b bs (T-false (test b) u)
   run-is (b ∷ bs) r t u =
-      run-pass b (bs ++ r) (T-true (test b) (T-both (test b) (every test bs) t .0))
-      ∙ ap suc (run-is bs r (T-both (test b) (every test bs) t .1) u)
+      let both = T-both (test b) (every test bs) t in
+      run-pass b (bs ++ r) (T-true (test b) (both .0)) ∙ ap suc (run-is bs r (both .1) u)
 
--- bytes begin with a list exactly where the list is their front
+  module _ (text : List ℕ) (i : ℕ) where
+    -- from a place of a text the run goes on past a byte that passes
+    pub run-on : i < length text → test (getD text i 0) ≡ true → run test (drop i text) ≡ suc (run test (drop (suc i) text))
+    run-on h e = ap (run test) (drop-cons text i 0 h) ∙ run-pass (getD text i 0) (drop (suc i) text) e
+
+    -- ends at one that fails
+    pub run-off : i < length text → test (getD text i 0) ≡ false → run test (drop i text) ≡ 0
+    run-off h e = ap (run test) (drop-cons text i 0 h) ∙ run-fail (getD text i 0) (drop (suc i) text) e
+
+    -- and ends with the text
+    pub run-out : length text ≤ i → run test (drop i text) ≡ 0
+    unfolding run
+    run-out h = ap (run test) (drop-of-length-le text h)
+
+-- bytes begin with the list in front
 pub starts-append : (l r : List ℕ) → starts l (l ++ r) ≡ true
 unfolding starts
 starts-append [] r = refl
 starts-append (c ∷ cs) r = rw (T-true (eqb c c) (eqb-refl c)) (starts-append cs r)
 
+-- and a list with which they begin is their front
 pub starts-take : (l bytes : List ℕ) → T (starts l bytes) → take (length l) bytes ≡ l
 unfolding starts
 starts-take [] bytes t = refl
 starts-take (c ∷ cs) [] t = absurd t
 starts-take (c ∷ cs) (b ∷ bs) t =
-    λ i. eqb→eq b c (T-both (eqb b c) (starts cs bs) t .0) i ∷ starts-take cs bs (T-both (eqb b c) (starts cs bs) t .1) i
+    let both = T-both (eqb b c) (starts cs bs) t in
+    ap₂ _∷_ (eqb→eq b c (both .0)) (starts-take cs bs (both .1))
 
 -- none of the lists with which the bytes begin is longer
 pub longestOf-bound : {l : List ℕ} {ls : List (List ℕ)} (r : List ℕ) → List·Memᴰ l ls → length l ≤ longestOf ls (l ++ r)

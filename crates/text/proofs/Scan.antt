@@ -1,12 +1,11 @@
 -- The tokeniser as a function that computes: what stands at the front of the bytes, and with that all the tokens of a text.
 use Prim.Native.Nat.{ℕ, zero, suc, _+_, max}
-use mathlib.Core.Path.{_≡_, refl}
 use mathlib.Core.Bool.{Bool, true, false, not, cond, _&&_}
 use mathlib.Core.List.{List, [], _∷_}
 use lib.ListN.{length, take, drop, getD}
 use lib.Dec.{eqb}
-use Rattle.bits.specs.Byte.{isDigit, isLetter, spelling}
-use Rattle.text.specs.Token.{Token, word, number, letter, sign, beginsWord, inWord, signs, quote, s, w}
+use Rattle.bits.specs.Byte.{isDigit, isLetter}
+use Rattle.text.specs.Token.{Token, word, number, letter, sign, beginsWord, inWord, signs, quote}
 use Rattle.text.specs.Tokens.{Placed, _at_, Ending, ends, broken, isWhite, lineFeed, slash}
 
 -- the sorts of tokens
@@ -18,6 +17,7 @@ pub data Kind : Type 0 where
   forToken : Sort → Kind
   forWhite forComment : Kind
 
+-- the first of these tests that passes says the kind: begins a word, digit, quote, white, slash
 abbrev pub sorted : Bool → Bool → Bool → Bool → Bool → Kind
 sorted true isNumber isQuote white isSlash = forToken ofWord
 sorted false true isQuote white isSlash = forToken ofNumber
@@ -79,6 +79,7 @@ pub data Lexed : Type 0 where
   found : ℕ → Token → Lexed
   bad : Lexed
 
+-- what stands at a slash, by what follows it
 unfoldable pub lexComment : List ℕ → Lexed
 unfolding run
 lexComment [] = bad
@@ -90,12 +91,14 @@ unfolding made
 lexToken zero k bytes = bad
 lexToken (suc n) k bytes = found (suc n) (made k (take (suc n) bytes))
 
+-- what stands at a byte of this kind
 unfoldable pub lexAs : Kind → ℕ → List ℕ → Lexed
 unfolding lexToken reach lexComment
 lexAs (forToken k) b bs = lexToken (reach k b bs) k (b ∷ bs)
 lexAs forWhite b bs = skip 1
 lexAs forComment b bs = lexComment bs
 
+-- what stands at the front of the bytes
 unfoldable pub lex : List ℕ → Lexed
 unfolding kind lexAs
 lex [] = over
@@ -106,6 +109,7 @@ pub record Scanned : Type 0 where
   pub tokens : List Placed
   pub ending : Ending
 
+-- this token, then those
 unfoldable pub before : Placed → Scanned → Scanned
 before t r = record { tokens = t ∷ r .tokens; ending = r .ending }
 
@@ -123,23 +127,7 @@ unfolding step lex
 scanFrom zero place bytes = record { tokens = []; ending = broken place }
 scanFrom (suc fuel) place bytes = step (lex bytes) place (λ n. scanFrom fuel (place + n) (drop n bytes))
 
+-- the tokens of a text
 unfoldable pub scan : List ℕ → Scanned
 unfolding scanFrom
 scan text = scanFrom (suc (length text)) 0 text
-
-example : scan (spelling "c += 12; // x") .tokens ≡ (w "c" at 0) ∷ (s "+=" at 2) ∷ (number (spelling "12") at 5) ∷ (s ";" at 7) ∷ []
-unfolding scan
-example = refl
-
-bal : List ℕ
-bal =
-    spelling
-    "alphabet=['u','r'];decr_on_zero=false;twoc(string){move(1);while(read!=rend){if(read=='u'){c++;}else{c--;}move(1);}if(c==0){accept;}} // +"
-
-example2 : scan bal .ending ≡ ends 138
-unfolding scan bal
-example2 = refl
-
-example3 : length (scan bal .tokens) ≡ 63
-unfolding scan bal
-example3 = refl

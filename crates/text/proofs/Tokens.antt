@@ -1,14 +1,15 @@
 -- The tokens of a text: there are some, `scan` finds them, there are no others, and they end where the text does.
-use Prim.Native.Nat.{ℕ, zero, suc, _+_, _-_, _≤_, _<_, zero-le, suc-le-suc}
+use Prim.Native.Nat.{ℕ, zero, suc, pred, _+_, _<_, zero-le, suc-le-suc}
 use native.Mathlib.Omega.{arith}
 use mathlib.Core.Path.{_≡_, refl, sym, ap, _∙_, subst}
-use mathlib.Core.List.{List, [], _∷_, _++_, cons≢nil}
-use lib.ListN.{length, take, drop, length-append, length-drop}
+use mathlib.Core.List.{List, [], _∷_, cons≢nil}
+use lib.ListN.{length, drop, length-append, length-drop}
 use lib.Seq.{length-take-le}
-use Rattle.text.specs.Token.{Token, Spells}
+use Rattle.text.specs.Token.{Token}
 use Rattle.text.specs.Tokens.{Placed, _at_, Ending, ends, broken, Blank, white, comment, Longest, Tokens, end, blank, token, none, TokensOf}
 use Rattle.text.proofs.Scan.{Lexed, over, skip, found, bad, lex, Scanned, before, step, scanFrom, scan}
-use Rattle.text.proofs.Front.{Found, Bad, Stands, lex-right, spells-some}
+use Rattle.text.proofs.Front.{Found, Stands, lex-right, lex-is, blank-lex, longest-found}
+use Rattle.text.proofs.Reach.{empty-no-token}
 
 -- these are the tokens of the bytes from a place on
 abbrev Scans : ℕ → List ℕ → Scanned → Type 0
@@ -18,8 +19,9 @@ blank-some : {bytes rest : List ℕ} {n : ℕ} → Blank bytes n rest → 0 < n
 blank-some (white t) = omega arith
 blank-some (comment body e t c) = omega arith
 
-found-some : {bytes : List ℕ} {n : ℕ} {t : Token} → Found bytes n t → 0 < n
-found-some {n = zero} h = absurd (spells-some [] refl (h .longest .spells))
+-- a token found has bytes
+pub found-some : {bytes : List ℕ} {n : ℕ} {t : Token} → Found bytes n t → 0 < n
+found-some {n = zero} h = absurd (empty-no-token [] [] _ refl (h .longest .spells))
 found-some {n = suc n} h = suc-le-suc zero-le
 
 -- a token found at the front, and then the tokens of what it leaves
@@ -52,3 +54,71 @@ scanFrom-right (suc fuel) place (b ∷ bs) h =
 pub scan-right : (text : List ℕ) → TokensOf text (scan text .tokens) (scan text .ending)
 unfolding scan
 scan-right text = scanFrom-right (suc (length text)) 0 text (omega arith)
+
+-- a blank and what follows it make up the bytes
+blank-length : {bytes rest : List ℕ} {n : ℕ} → Blank bytes n rest → length bytes ≡ n + length rest
+blank-length (white t) = omega arith
+blank-length {rest} (comment body e t c) = omega (arith, ap length e, length-append body rest)
+
+longest-length : {bytes lexeme rest : List ℕ} {t : Token} → Longest bytes lexeme rest t → length bytes ≡ length lexeme + length rest
+longest-length {lexeme} {rest} h = ap length (h .begins) ∙ length-append lexeme rest
+
+scan-step : (fuel place : ℕ) (bytes : List ℕ) (x : Lexed)
+    → length bytes < fuel
+    → lex bytes ≡ x
+    → scanFrom fuel place bytes ≡ step x place (λ n. scanFrom (pred fuel) (place + n) (drop n bytes))
+unfolding scanFrom
+scan-step zero place bytes x h e = absurd (omega arith)
+scan-step (suc fuel) place bytes x h e = ap (λ y. step y place (λ n. scanFrom fuel (place + n) (drop n bytes))) e
+
+tokens-from : {place : ℕ} {bytes : List ℕ} {ts : List Placed} {e : Ending} (fuel : ℕ)
+    → Tokens place bytes ts e
+    → length bytes < fuel
+    → scanFrom fuel place bytes ≡ record { tokens = ts; ending = e }
+unfolding step before
+tokens-from {place} {bytes} fuel end h = scan-step fuel place [] over h (lex-is [] over refl)
+tokens-from {place} {bytes} fuel (blank {n = n} {rest = rest} b g) h =
+    scan-step fuel place bytes (skip n) h (blank-lex b .0)
+    ∙ ap (scanFrom (pred fuel) (place + n)) (blank-lex b .1)
+    ∙ tokens-from (pred fuel) g (omega (arith, blank-length b, blank-some b))
+tokens-from {place} {bytes} fuel (token {lexeme = lexeme} {rest = rest} {t = t} l g) h =
+    let hit = longest-found l in
+    scan-step fuel place bytes (found (length lexeme) t) h (lex-is bytes (found (length lexeme) t) (hit .0))
+    ∙ ap (λ (r : List ℕ). before (t at place) (scanFrom (pred fuel) (place + length lexeme) r)) (hit .1)
+    ∙ ap (before (t at place)) (tokens-from (pred fuel) g (omega (arith, longest-length l, found-some (hit .0))))
+tokens-from {place} {bytes} fuel (none {b = b} {bs = bs} x y) h =
+    scan-step fuel place (b ∷ bs) bad h (lex-is (b ∷ bs) bad record { some = cons≢nil; noBlank = x; noToken = y })
+
+-- a text's tokens are those that `scan` gives
+pub tokens-scanned : {text : List ℕ} {ts : List Placed} {e : Ending} → TokensOf text ts e → scan text ≡ record { tokens = ts; ending = e }
+unfolding scan
+tokens-scanned {text} h = tokens-from (suc (length text)) h (omega arith)
+
+-- a text has one list of tokens and one ending, counted from any place
+pub tokens-once : {place : ℕ} {text : List ℕ} {ts us : List Placed} {e f : Ending} → Tokens place text ts e → Tokens place text us f → (ts ≡ us) × (e ≡ f)
+tokens-once {text} h g =
+    let same = sym (tokens-from (suc (length text)) h (omega arith)) ∙ tokens-from (suc (length text)) g (omega arith) in
+    (ap (λ (r : Scanned). r .tokens) same, ap (λ (r : Scanned). r .ending) same)
+
+-- where a text of this length may end, or its tokens break off
+abbrev EndsAt : Ending → ℕ → Type 0
+EndsAt (ends p) n = p ≡ n
+EndsAt (broken p) n = p < n
+
+ends-from : {place : ℕ} {bytes : List ℕ} {ts : List Placed} {e : Ending} → Tokens place bytes ts e → EndsAt e (place + length bytes)
+ends-from end = omega arith
+ends-from (blank {p = p} {n = n} {bytes = bytes} {rest = rest} {e = e} b g) =
+    let same : p + n + length rest ≡ p + length bytes = omega (arith, blank-length b) in
+    subst (EndsAt e) same (ends-from g)
+ends-from (token {p = p} {bytes = bytes} {lexeme = lexeme} {rest = rest} {e = e} l g) =
+    let same : p + length lexeme + length rest ≡ p + length bytes = omega (arith, longest-length l) in
+    subst (EndsAt e) same (ends-from g)
+ends-from (none x y) = omega arith
+
+-- tokens that end with the text end at its length
+pub ends-at : {text : List ℕ} {ts : List Placed} {p : ℕ} → TokensOf text ts (ends p) → p ≡ length text
+ends-at h = omega (arith, ends-from h)
+
+-- tokens that break off do so at a byte of the text
+pub broken-at : {text : List ℕ} {ts : List Placed} {p : ℕ} → TokensOf text ts (broken p) → p < length text
+broken-at h = omega (arith, ends-from h)
