@@ -30,8 +30,8 @@ use Rattle.rule.specs.Grammar.{
   IsProgram,
 }
 use Rattle.rule.proofs.Machine as Machine
-use Rattle.rule.proofs.Machine.{Symbol, Stack, Value, Values, start, operand, tail, block, statements, orElse, arms, orAlso}
-use Rattle.rule.proofs.Steps.{Ts, Far, State, state, eat}
+use Rattle.rule.proofs.Machine.{Symbol, Stack, Value, Values, operand, tail, block, statements, orElse, arms, orAlso}
+use Rattle.rule.proofs.Steps.{Ts, Far, State, state, begin, eat}
 use Rattle.rule.proofs.Far.{
   counts,
   notes,
@@ -293,14 +293,6 @@ pub program-eats : {ts : Ts} {x : Program} → IsProgram ts x
     → eat (state (Machine.program ∷ []) a k) ts ≡ some (state [] (programFar x a) (λ vs. k (x, vs)))
 unfolding eat programFar
 program-eats (Grammar.program h b) a k = settings-eats h [] a k ∙ block-eats b 0 [] _ _
-
--- where the machine begins
-abbrev pub begin : State
-begin =
-    state
-    (Machine.program ∷ [])
-    (record { totals = start; seen = [] })
-    (λ (x, vs). x)
 
 abbrev builtOn : (st : Stack) → (Values st → Program) → Option Program
 builtOn [] k = some (k tt)

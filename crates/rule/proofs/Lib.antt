@@ -8,3 +8,7 @@ pub mod Complete
 pub mod Counting
 pub mod Tally
 pub mod Sound
+pub mod Places
+pub mod Viable
+pub mod Trace
+pub mod Outcomes

@@ -34,7 +34,7 @@ use Rattle.rule.specs.Grammar.{
 use Rattle.rule.proofs.Class.{Mark, spell, Class, mark, number, letter, other, tokenOf, classify, token-of-class}
 use Rattle.rule.proofs.Machine as Machine
 use Rattle.rule.proofs.Machine.{Symbol, Stack, Value, Values, Totals, Move, Choice, on, onNumber, onLetter, along, alongChoice, also, statementChoices, choices, take, pick, move}
-use Rattle.rule.proofs.Steps.{Ts, Far, State, state, follow, eat, _>>=_}
+use Rattle.rule.proofs.Steps.{Ts, Far, State, state, begin, follow, eat, _>>=_}
 use Rattle.rule.proofs.Complete.{Is, is}
 
 data IsNumber : Ts → Number → Ts → Type 0 where
@@ -409,3 +409,16 @@ eat-reads ((u at p) ∷ ts) (x ∷ st) a k h =
     go (some z) m rest h =
         let (vs, r) = rest (z .push ++ st) _ _ h in
         (z .makes st vs, m st ts vs r)
+
+program-of : {ts us vs : Ts} {l : List Letter} {d : Bool} {o : ℕ} {b : Statements}
+    → IsSettings ts l d us
+    → IsBody us o b vs
+    → Over vs
+    → IsProgram ts (record { alphabet = l; stops = d; brace = o; body = b })
+program-of h (body b) over = Grammar.program h b
+
+-- what the machine takes to its end is a program
+pub eaten-program : (ts : Ts) → Ended (eat begin ts) → (x : Program) × IsProgram ts x
+eaten-program ts h =
+    let (vs, (_, (_, d, b), o)) = eat-reads ts (begin .stack) (begin .far) (begin .build) h in
+    (vs .0, program-of d b o)

@@ -10,7 +10,7 @@ use Rattle.text.specs.Token.{Token}
 use Rattle.text.specs.Tokens.{Placed, _at_, Ending}
 use Rattle.rule.specs.Tree.{Program}
 use Rattle.rule.specs.Limits.{Fault, fault}
-use Rattle.rule.proofs.Machine.{Symbol, Stack, Value, Values, Totals, start, Move, move, Outcome, refused, run}
+use Rattle.rule.proofs.Machine.{Symbol, Stack, Value, Values, Totals, start, program, Move, move, Outcome, refused, run}
 
 abbrev pub Ts : Type 0
 Ts = List Placed
@@ -28,6 +28,10 @@ pub record State : Type 0 where
 
 abbrev pub state : (st : Stack) → Far → (Values st → Program) → State
 state st s k = record { stack = st; far = s; build = k }
+
+-- where the machine begins: a program is expected
+abbrev pub begin : State
+begin = state (program ∷ []) (record { totals = start; seen = [] }) (λ (x, vs). x)
 
 -- one more fault, if the limit is broken
 unfoldable pub noted : Bool → ℕ → ℕ → List Fault → List Fault
