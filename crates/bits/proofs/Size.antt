@@ -4,7 +4,8 @@ use native.Mathlib.Nat.{eq-or-lt-of-le, le-of-suc-le-suc}
 use native.Mathlib.Omega.{arith}
 use mathlib.Core.Path.{_≡_, refl, sym, ap, _∙_}
 use mathlib.Core.Logic.{⊎-elim}
-use mathlib.Core.List.{List, [], _∷_, map, Memᴰ·map, List·Memᴰ, List·Memᴰ·head, List·Memᴰ·tail, Memᴰ·cast, List·Nodup, Pairwise·nil, Pairwise·cons}
+use mathlib.Core.List.{List, [], _∷_, map, List·Memᴰ, List·Memᴰ·head, List·Memᴰ·tail, Memᴰ·cast, Memᴰ·map}
+use mathlib.Core.List.{List·Nodup, Pairwise·nil, Pairwise·cons}
 use lib.ListN.{length, length-map}
 use Rattle.bits.specs.Size.{Size}
 

@@ -17,7 +17,7 @@ use Rattle.compiler.specs.Construction.{construct}
 abbrev pub imageRoom : ℕ
 imageRoom = 8246
 
--- a whole program without faults, and what its table has of states or rows
+-- a whole program without faults, of whose table there is more than the most that may be: of states, or of rows
 pub record TooMany (text : List ℕ) (size : Table → ℕ) (most place : ℕ) : Type 0 where
   pub program : Program
   pub reads : Reads text program
@@ -79,3 +79,9 @@ AnswerRight text before after (refused number place) = Refused text before after
 
 pub record Compiles (text before after : List ℕ) (answer : Answer) : Type 0 where
   pub right : AnswerRight text before after answer
+
+-- the same of the answer as one number
+pub record CompilesTo (text before after : List ℕ) (result : ℕ) : Type 0 where
+  pub answer : Answer
+  pub compiles : Compiles text before after answer
+  pub number : result ≡ answerNumber answer

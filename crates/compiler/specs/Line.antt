@@ -12,7 +12,7 @@ digits zero n rest = rest
 digits (suc most) n rest =
     elim (ltb n 10) [ true ↦ (n + 48) ∷ rest | false ↦ digits most (n / 10) ((n % 10 + 48) ∷ rest) ]
 
--- a number of up to twenty digits, written in ten figures
+-- a number of up to twenty digits
 abbrev pub decimal : ℕ → List ℕ
 decimal n = digits 20 n []
 

@@ -2,4 +2,4 @@
 pub mod Number
 pub mod Verdict
 pub mod Marks
-pub mod Judge
+pub mod Judges

@@ -45,6 +45,7 @@ module _ {t : Table} {w : List ℕ} where
   pub no-everywhere : {L : ℕ} → ¬ Accepts t w L → ¬ Passes t w L → (M : ℕ) → ¬ Accepts t w M
   no-everywhere never calm M a = never (accepts-as (λ s. reach-anyway calm) a)
 
+-- whichever of two numbers at most n a test picks is at most n
 either-at-most : (b : Bool) {x y n : ℕ} → x ≤ n → y ≤ n → cond b x y ≤ n
 either-at-most true low low′ = low
 either-at-most false low low′ = low′

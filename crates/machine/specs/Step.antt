@@ -34,7 +34,7 @@ rowFits t word r s =
     eqb (r .from) (s .state)
     && (symbolFits (t .alphabet) (r .symbol) (symbolOn word (s .cell)) && counterFits (r .test) (s .counter))
 
--- the situation t is one row's step from s
+-- `after` is `before` with this row taken
 pub record Takes (t : Table) (word : List ℕ) (r : Row) (before after : Situation) : Type 0 where
   pub fits : rowFits t word r before ≡ Bool.true
   pub state : after .state ≡ r .to

@@ -12,3 +12,4 @@ pub mod Places
 pub mod Viable
 pub mod Trace
 pub mod Outcomes
+pub mod Within

@@ -8,7 +8,7 @@ pub record Number : Type 0 where
   pub digits : List ℕ
   pub place : ℕ
 
--- an alphabet's letter, and its place
+-- a letter of the alphabet or of a condition, and its place
 pub record Letter : Type 0 where
   pub byte : ℕ
   pub place : ℕ

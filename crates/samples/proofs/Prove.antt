@@ -21,6 +21,7 @@ use Rattle.text.specs.Token.{Token}
 use Rattle.text.specs.Tokens.{Placed, _at_, Ending, ends, broken, TokensOf, Rising}
 use Rattle.text.proofs.Scan.{scan}
 use Rattle.text.proofs.Tokens.{scan-right}
+use Rattle.text.proofs.Rising.{rising}
 use Rattle.text.proofs.Same.{sameToken, same-token}
 use Rattle.rule.specs.Tree.{Program}
 use Rattle.rule.specs.Grammar.{IsProgram}
@@ -36,9 +37,6 @@ use Rattle.samples.specs.Sample as Sample
 use Rattle.samples.specs.Sample.{Finding, prints, has, image, row, judged, Sample, compiles, refuses, onlyRow, FindingHolds, AllHold, Holds, EachHolds}
 use Rattle.samples.proofs.Decide.{_>>=_, found, it, passed, equal, atMost, equalLists, empty}
 use Rattle.samples.proofs.Explore.{Explored, explore, size-of, decideVerdict}
-
-tokens-rise : {text : List ℕ} {ts : List Placed} {e : Ending} → TokensOf text ts e → Rising ts
-tokens-rise t = ?
 
 -- the text's program, if it is one without faults
 
@@ -181,7 +179,7 @@ goes-on ts rest all q r d e =
       derived = subst (λ (x : List Placed). IsProgram x q) e d;
     }
 
--- the refusal by a limit, from the split text and the other program
+-- the refusal by a limit, from the split text and a program that goes on from the tokens up to the place
 pub limit-broken : (text other : List ℕ) (n p : ℕ)
     (sp : Split p (scan text .tokens))
     (rest : List Placed)
@@ -194,7 +192,7 @@ pub limit-broken : (text other : List ℕ) (n p : ℕ)
     → FirstFault text n p
 unfolding goes-on
 limit-broken text other n p sp rest q others derived begins first within =
-    let rising : Rising (scan other .tokens) = tokens-rise (scan-right other) in
+    let rising : Rising (scan other .tokens) = rising (scan-right other) in
     let here : List Placed = (sp .token at p) ∷ [] in
     Faults.limit
     (sp .before)
@@ -232,16 +230,17 @@ first-refusal text n p short h =
       ),
     )
 
-abbrev refuse : (text other : List ℕ) (n p : ℕ) → Option (First (reasons text (replicate imageRoom 0)) n p)
-refuse text other n p = do
+-- where the text itself is a program, limits aside, it is the program that goes on
+abbrev refuse : (text : List ℕ) (n p : ℕ) → Option (First (reasons text (replicate imageRoom 0)) n p)
+refuse text n p = do
   short ← atMost (length text) 4096
   sp ← split p (scan text .tokens)
-  x ← parse (scan other .tokens)
-  r ← after (sp .before ++ ((sp .token at p) ∷ [])) (scan other .tokens)
+  x ← parse (scan text .tokens)
+  r ← after (sp .before ++ ((sp .token at p) ∷ [])) (scan text .tokens)
   f ← firstFault (faults (x .program)) n p
   h ← passed
       (apart (faults (x .program)) (sp .before))
-      (limit-broken text other n p sp (r .0) (x .program) (f .0) (x .derived) (r .1) (f .1))
+      (limit-broken text text n p sp (r .0) (x .program) (f .0) (x .derived) (r .1) (f .1))
   some (first-refusal text n p short h)
 
 -- a line, and a table of lines
@@ -250,8 +249,8 @@ prove (compiles text findings) = do
   c ← compile (spelling text)
   hs ← findAll (construct (c .0)) findings
   some (c .0, c .1, hs)
-prove (refuses text other n p printed) = do
-  r ← refuse (spelling text) (spelling other) n p
+prove (refuses text n p printed) = do
+  r ← refuse (spelling text) n p
   h ← equalLists (line (Compile.refused n p)) (spelling printed)
   some (r, h)
 

@@ -3,7 +3,7 @@ use Prim.Native.Nat.{ℕ}
 use Prim.Native.String.{String}
 use mathlib.Core.Path.{_≡_}
 use mathlib.Core.List.{List, [], _∷_}
-use lib.ListN.{length, drop, replicate}
+use lib.ListN.{length, replicate}
 use Rattle.bits.specs.Byte.{spelling}
 use Rattle.bits.specs.Size.{Size}
 use Rattle.table.specs.Table.{Table, Row}
@@ -31,8 +31,8 @@ pub data Finding : Type 0 where
 
 pub data Sample : Type 0 where
   compiles : String → List Finding → Sample
-  -- a text, a program limits aside that has the same tokens up to the place, the number and the place, the compile program's line
-  refuses : String → String → ℕ → ℕ → String → Sample
+  -- the number and the place, and the compile program's line
+  refuses : String → ℕ → ℕ → String → Sample
 
 unfoldable pub onlyRow : Table → List ℕ → Type 0
 onlyRow t bytes = (r : Row) × (t .rows ≡ r ∷ []) × (rowBytes r ≡ bytes)
@@ -53,7 +53,7 @@ pub data AllHold (t : Table) : List Finding → Type 0 where
 -- a text that compiles does so to a table of which all that is found holds; one that is refused is so with a buffer of the size asked for
 abbrev pub Holds : Sample → Type 0
 Holds (compiles text found) = (p : Program) × Compilable (spelling text) p × AllHold (construct p) found
-Holds (refuses text other number place printed) =
+Holds (refuses text number place printed) =
     First (reasons (spelling text) (replicate imageRoom 0)) number place
     × (line (Compile.refused number place) ≡ spelling printed)
 

@@ -38,6 +38,6 @@ starred =
     (H "{branch{c++;}also{} if(c==0){accept;}}")
     (has 9 9 ∷ judged "" 0 Yes 5 ∷ judged "" 1 Yes 9 ∷ [])
     ∷ compiles (H "{if(read!='a'&&c==0){accept;}}") (prints "ok 6 7 95\n" ∷ judged "" 0 Yes 3 ∷ [])
-    ∷ refuses (H "{move(64);}") (H "{move(64);}") 7 52 "no 7 52\n"
+    ∷ refuses (H "{move(64);}") 7 52 "no 7 52\n"
     ∷ compiles (H "{move(63);}") []
     ∷ []

@@ -1,4 +1,4 @@
 -- Laws of images, of refusals and of checking.
 pub mod Image
 pub mod Refusal
-pub mod Check
+pub mod Checks

@@ -43,7 +43,7 @@ no-reason
     : (image word : List ℕ) (limit : ℕ) (before : List ℕ) {t : Table} → Judgeable t image word limit before
     → Each (Gives (λ n p. ⊥)) (reasons image word limit before)
 no-reason image word limit before {t} j =
-    ((λ n p r. r .1 .1 (t, j .isImage)), ((λ n p r. omega arith), ((λ n p r. all-letters j (r .1)), ((λ n p r. omega arith), ((λ n p r. r .1 .1 (j .room)), tt)))))
+    (λ n p r. r .1 .1 (t, j .isImage), (λ n p r. omega arith, (λ n p r. all-letters j (r .1), (λ n p r. omega arith, (λ n p r. r .1 .1 (j .room), tt)))))
 
 -- every reason to refuse gives a number above 0
 reasons-numbered : (image word : List ℕ) (limit : ℕ) (before : List ℕ) → Each (Gives (λ n p. 1 ≤ n)) (reasons image word limit before)
