@@ -3,6 +3,7 @@
 use Prim.Native.Nat.{ℕ, suc, _<_}
 use native.Mathlib.Omega.{arith}
 use mathlib.Core.Path.{_≡_, refl, sym, _∙_, ap, ap₂, subst}
+use mathlib.Core.Logic.{_⊎_, inl, inr}
 use mathlib.Core.Option.{Option, none, some, Option·none-ne-some, Option·some-ne-none, Option·some-injective}
 use mathlib.Core.List.{List, [], _∷_, _++_, append-nil, append-assoc, List·Memᴰ, List·Memᴰ·head, Memᴰ·append-left, Memᴰ·append-right, nil≢cons, cons≢nil, head-eq-of-cons-eq}
 use Rattle.text.specs.Token.{Token}
@@ -15,7 +16,7 @@ use Rattle.rule.specs.Grammar.{IsProgram}
 use Rattle.rule.specs.Limits.{Fault, fault, faults}
 use Rattle.rule.specs.Faults.{GoesOn, Clean, Breaks, FirstFault, noToken, notHere, early, limit, Reads}
 use Rattle.rule.proofs.Counting.{programStates, programRows}
-use Rattle.rule.proofs.Machine.{Outcome, taken, refused, run, outcome}
+use Rattle.rule.proofs.Machine.{Stack, atEnd, Outcome, taken, refused, outcome}
 use Rattle.rule.proofs.Steps.{
   Ts,
   State,
@@ -40,7 +41,7 @@ use Rattle.rule.proofs.Sound.{Ended, eaten-program}
 use Rattle.rule.proofs.Places.{placed, past, rising-more, rising-apart, rising-front}
 use Rattle.rule.proofs.Viable.{shortAll, completes}
 use Rattle.rule.proofs.Trace as Trace
-use Rattle.rule.proofs.Trace.{Passed, Trace, eat-one, passed-runs, trace}
+use Rattle.rule.proofs.Trace.{Passed, Trace, eat-one, passed-runs, passed-end, trace}
 
 -- where the machine is behind a whole program
 abbrev final : Program → State
@@ -120,10 +121,165 @@ clean-passed {ts} c =
           c .within (f .number) (f .place) u (subst (List·Memᴰ f) (sym (b .seen)) (Memᴰ·append-left (b .new) m)) k);
     }
 
+rising-upto : (ts us : Ts) (u : Placed) → Rising (ts ++ (u ∷ us)) → Rising (ts ++ (u ∷ []))
+rising-upto ts us u r = rising-front (ts ++ (u ∷ [])) us (rw append-assoc r)
+
+-- tokens with which a program goes on are taken
+goes-taken : {ts : Ts} (c : GoesOn ts) → (y : State) × (eat begin ts ≡ some y) × (eat y (c .after) ≡ some (final (c .program)))
+goes-taken {ts} c = split ts (c .after) (final (c .program)) (eats-program (c .derived))
+
 -- what the machine refuses is the first fault
 trace-fault : {text : List ℕ} {ts : Ts} {e : Ending} {n p : ℕ} → TokensOf text ts e → Trace ts e (refused n p) → FirstFault text n p
 trace-fault h (Trace.torn {ts = ts} x) = noToken ts h (passed-clean (rising h) x)
 trace-fault h (Trace.early {ts = ts} x g) =
-    early ts h (passed-clean (rising h) x) (λ q d. g (ap (λ (o : Option State). ?) ?))
-trace-fault h (Trace.stopped ts us u x g) = notHere ts us u h (passed-clean (rising-front ts _ (rising h)) x) (λ c. ?)
-trace-fault h (Trace.limit ts us u z x g f) = limit ts us u h (passed-clean (rising-front ts _ (rising h)) x) ?
+    early ts h (passed-clean (rising h) x) (λ q d.
+    g (ap (λ (y : State). y .stack) (Option·some-injective (x .state) (final q) (sym (x .eaten) ∙ eats-program d))))
+trace-fault h (Trace.stopped ts us u x g) =
+    notHere ts us u h (passed-clean (rising-front ts _ (rising h)) x) (λ c.
+    let (y, k, _) = goes-taken c in
+    Option·none-ne-some y (sym g ∙ k))
+trace-fault h (Trace.limit ts us u z x g f) =
+    let c = reached z (rising-upto ts us _ (rising h)) g in
+    limit
+    ts
+    us
+    u
+    h
+    (passed-clean (rising-front ts _ (rising h)) x)
+    (record { goesOn = c .goesOn; others = c .later; first = c .faulty ∙ ap (λ (l : List Fault). l ++ c .later) f })
+
+outcome-is : {text : List ℕ} {ts : Ts} {e : Ending} → TokensOf text ts e → outcome text ≡ runs begin ts e
+unfolding outcome
+outcome-is h = ap (λ (r : Scanned). runs begin (r .tokens) (r .ending)) (tokens-scanned h)
+
+text-trace : (text : List ℕ) → Trace (scan text .tokens) (scan text .ending) (outcome text)
+text-trace text = rw (outcome-is (scan-right text)) (trace (scan text .tokens) (scan text .ending))
+
+-- the machine's refusal of a text is its first fault
+pub refused-fault : {text : List ℕ} {n p : ℕ} → outcome text ≡ refused n p → FirstFault text n p
+refused-fault {text} h = trace-fault (scan-right text) (subst (Trace (scan text .tokens) (scan text .ending)) h (text-trace text))
+
+-- behind tokens passed, a token with which no program goes on, and one that breaks a limit
+module _ {ts : Ts} (x : Passed ts) (u : Token) (p : ℕ) (us : Ts) (e : Ending) where
+  not-here : Rising (ts ++ ((u at p) ∷ [])) → ¬ GoesOn (ts ++ ((u at p) ∷ [])) → runs (x .state) ((u at p) ∷ us) e ≡ refused 4 p
+  not-here r never = go (step (x .state) (u at p)) (view (x .state) u p) (eat-one x (u at p))
+    where
+      go : (o : Option State) → View (x .state) u p o → eat begin (ts ++ ((u at p) ∷ [])) ≡ o → runs (x .state) ((u at p) ∷ us) e ≡ refused 4 p
+      go none (stops s) h = s us e
+      go (some z) s h = absurd (never (reached z r h .goesOn))
+
+  over-limit : {n : ℕ} → Breaks (ts ++ ((u at p) ∷ [])) (fault n p) → runs (x .state) ((u at p) ∷ us) e ≡ refused n p
+  over-limit {n} b = go (step (x .state) (u at p)) (view (x .state) u p) (eat-one x (u at p))
+    where
+      after : Ts
+      after = b .goesOn .after
+
+      adds : (y : State) → eat begin (ts ++ ((u at p) ∷ [])) ≡ some y → Adds y (final (b .goesOn .program)) after
+      adds y h = eat-adds y (final (b .goesOn .program)) after (sym (eat-then (ts ++ ((u at p) ∷ [])) h after) ∙ eats-program (b .goesOn .derived))
+
+      go : (o : Option State) → View (x .state) u p o → eat begin (ts ++ ((u at p) ∷ [])) ≡ o → runs (x .state) ((u at p) ∷ us) e ≡ refused n p
+      go none (stops s) h = let (z, k, _) = goes-taken (b .goesOn) in absurd (Option·none-ne-some z (sym h ∙ k))
+      go (some y) (passes f s) h =
+          let a = adds y h in
+          let same : fault n p ∷ b .others ≡ a .new = sym (b .first) ∙ a .seen ∙ ap (λ (l : List Fault). l ++ a .new) (f ∙ x .unseen) in
+          let (v, k) = a .placed (fault n p) (subst (List·Memᴰ (fault n p)) same (List·Memᴰ·head refl)) in
+          absurd (not-itself (rising-apart (ts ++ ((u at p) ∷ [])) after (b .goesOn .rising) (Memᴰ·append-right ts (List·Memᴰ·head refl)) k))
+      go (some y) (breaks m f s) h =
+          let a = adds y h in
+          let same : fault n p ∷ b .others ≡ fault m p ∷ a .new = sym (b .first) ∙ a .seen ∙ ap (λ (l : List Fault). l ++ a .new) (f ∙ ap (λ (l : List Fault). l ++ (fault m p ∷ [])) (x .unseen)) in
+          s us e ∙ ap (λ (g : Fault). refused (g .number) p) (sym (head-eq-of-cons-eq same))
+
+early-end : {ts : Ts} (x : Passed ts) (p : ℕ) → ((q : Program) → ¬ IsProgram ts q) → atEnd (x .state .stack) (x .state .far .totals) (ends p) ≡ refused 4 p
+early-end {ts} x p never = go (x .state .stack) refl
+  where
+    go : (st : Stack) → x .state .stack ≡ st → atEnd st (x .state .far .totals) (ends p) ≡ refused 4 p
+    go [] h = let (q, d) = eaten-program ts (subst Ended (sym (x .eaten)) h) in absurd (never q d)
+    go (y ∷ st) h = refl
+
+-- and a first fault of a text is what the machine refuses
+pub fault-refused : {text : List ℕ} {n p : ℕ} → FirstFault text n p → outcome text ≡ refused n p
+fault-refused (noToken {p = p} ts h c) = outcome-is h ∙ passed-end (clean-passed c) (broken p)
+fault-refused (notHere {p = p} ts us u {e = e} h c never) =
+    let x = clean-passed c in
+    outcome-is h ∙ passed-runs x ((u at p) ∷ us) e ∙ not-here x u p us e (rising-upto ts us _ (rising h)) never
+fault-refused (early {p = p} ts h c never) =
+    let x = clean-passed c in
+    outcome-is h ∙ passed-end x (ends p) ∙ early-end x p never
+fault-refused (limit {p = p} ts us u {e = e} h c b) =
+    let x = clean-passed c in
+    outcome-is h ∙ passed-runs x ((u at p) ∷ us) e ∙ over-limit x u p us e b
+
+-- the machine takes the tokens of a program that breaks no limit, and counts its states and rows
+pub complete : {ts : Ts} {x : Program} → IsProgram ts x → faults x ≡ [] → (p : ℕ) → runs begin ts (ends p) ≡ taken (programStates x) (programRows x)
+complete {x = x} d h p = passed-end (record { state = final x; eaten = eats-program d; unseen = h }) (ends p)
+
+-- a program of these tokens that breaks no limit, with so many states and rows
+pub record Taken (ts : Ts) (a b : ℕ) : Type 0 where
+  pub program : Program
+  pub derived : IsProgram ts program
+  pub faultless : faults program ≡ []
+  pub states : a ≡ programStates program
+  pub rows : b ≡ programRows program
+
+passed-program : {ts : Ts} (x : Passed ts) → x .state .stack ≡ [] → Taken ts (x .state .far .totals .states) (x .state .far .totals .rows)
+passed-program {ts} x h =
+    let (q, d) = eaten-program ts (subst Ended (sym (x .eaten)) h) in
+    let same = Option·some-injective (x .state) (final q) (sym (x .eaten) ∙ eats-program d) in
+    record {
+      program = q;
+      derived = d;
+      faultless = sym (ap (λ (y : State). y .far .seen) same) ∙ x .unseen;
+      states = ap (λ (y : State). y .far .totals .states) same;
+      rows = ap (λ (y : State). y .far .totals .rows) same;
+    }
+
+-- what the machine takes is such a program
+pub sound : (ts : Ts) (e : Ending) {a b : ℕ} → runs begin ts e ≡ taken a b → Taken ts a b
+sound ts e {a} {b} h = go (subst (Trace ts e) h (trace ts e))
+  where
+    go : Trace ts e (taken a b) → Taken ts a b
+    go (Trace.whole x g) = passed-program x g
+
+-- a text that is a program without faults is taken
+pub reads-taken : {text : List ℕ} {x : Program} → Reads text x → outcome text ≡ taken (programStates x) (programRows x)
+reads-taken r = outcome-is (r .ofText) ∙ complete (r .derived) (r .faultless) (r .place)
+
+trace-reads : {text : List ℕ} {ts : Ts} {e : Ending} {a b : ℕ} → TokensOf text ts e → Trace ts e (taken a b) → (x : Program) × Reads text x × (a ≡ programStates x) × (b ≡ programRows x)
+trace-reads h (Trace.whole {p = p} {ts = ts} x g) =
+    let t = passed-program x g in
+    (t .program, record { tokens = ts; place = p; ofText = h; derived = t .derived; faultless = t .faultless }, t .states, t .rows)
+
+-- and a text that is taken is such a program
+pub taken-reads : {text : List ℕ} {a b : ℕ} → outcome text ≡ taken a b → (x : Program) × Reads text x × (a ≡ programStates x) × (b ≡ programRows x)
+taken-reads {text} h = trace-reads (scan-right text) (subst (Trace (scan text .tokens) (scan text .ending)) h (text-trace text))
+
+abbrev numbers : Outcome → ℕ × ℕ
+numbers (taken a b) = (a, b)
+numbers (refused n p) = (n, p)
+
+abbrev IsTaken : Outcome → Type 0
+IsTaken (taken a b) = Unit {0}
+IsTaken (refused n p) = ⊥
+
+-- a text has one first fault at most
+pub first-fault-once : {text : List ℕ} {n m p q : ℕ} → FirstFault text n p → FirstFault text m q → (n ≡ m) × (p ≡ q)
+first-fault-once f g =
+    let same = sym (fault-refused f) ∙ fault-refused g in
+    (ap (λ (o : Outcome). numbers o .0) same, ap (λ (o : Outcome). numbers o .1) same)
+
+-- a text that is a program without faults has none
+pub reads-no-fault : {text : List ℕ} {x : Program} {n p : ℕ} → Reads text x → ¬ FirstFault text n p
+reads-no-fault r f = subst IsTaken (sym (reads-taken r) ∙ fault-refused f) tt
+
+-- a text is one program at most
+pub reads-once : {text : List ℕ} {x y : Program} → Reads text x → Reads text y → x ≡ y
+reads-once {y = y} r s =
+    program-once (r .derived) (subst (λ (ts : Ts). IsProgram ts y) (tokens-once (s .ofText) (r .ofText) .0) (s .derived))
+
+-- every text is a program without faults, or has a first fault
+pub reads-or-fault : (text : List ℕ) → ((x : Program) × Reads text x) ⊎ ((n : ℕ) × (p : ℕ) × FirstFault text n p)
+reads-or-fault text = go (outcome text) refl
+  where
+    go : (o : Outcome) → outcome text ≡ o → ((x : Program) × Reads text x) ⊎ ((n : ℕ) × (p : ℕ) × FirstFault text n p)
+    go (taken a b) h = let (x, r, _, _) = taken-reads h in inl (x, r)
+    go (refused n p) h = inr (n, p, refused-fault h)

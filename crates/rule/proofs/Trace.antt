@@ -64,6 +64,10 @@ eat-one {ts} x u = eat-append begin ts (u ∷ []) ∙ ap (λ (o : Option State).
 pub passed-runs : {ts : Ts} (x : Passed ts) (us : Ts) (e : Ending) → runs begin (ts ++ us) e ≡ runs (x .state) us e
 passed-runs {ts} x us e = eat-runs begin (x .state) ts us e (x .eaten) (x .unseen)
 
+pub passed-end : {ts : Ts} (x : Passed ts) (e : Ending) → runs begin ts e ≡ atEnd (x .state .stack) (x .state .far .totals) e
+unfolding run
+passed-end {ts} x e = ap (λ (l : Ts). runs begin l e) (sym (append-nil ts)) ∙ passed-runs x [] e
+
 end-trace : {ts : Ts} (x : Passed ts) (e : Ending) → Trace ts e (runs (x .state) [] e)
 unfolding run
 end-trace x (broken p) = torn x
