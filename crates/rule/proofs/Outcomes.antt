@@ -233,12 +233,12 @@ passed-program {ts} x h =
       rows = ap (λ (y : State). y .far .totals .rows) same;
     }
 
+trace-taken : {ts : Ts} {e : Ending} {a b : ℕ} → Trace ts e (taken a b) → Taken ts a b
+trace-taken (Trace.whole x h) = passed-program x h
+
 -- what the machine takes is such a program
 pub sound : (ts : Ts) (e : Ending) {a b : ℕ} → runs begin ts e ≡ taken a b → Taken ts a b
-sound ts e {a} {b} h = go (subst (Trace ts e) h (trace ts e))
-  where
-    go : Trace ts e (taken a b) → Taken ts a b
-    go (Trace.whole x g) = passed-program x g
+sound ts e h = trace-taken (subst (Trace ts e) h (trace ts e))
 
 -- a text that is a program without faults is taken
 pub reads-taken : {text : List ℕ} {x : Program} → Reads text x → outcome text ≡ taken (programStates x) (programRows x)
