@@ -1,12 +1,12 @@
 -- The machine takes whatever is derived, sees the faults of its tree and no others, and makes that very tree.
 use Prim.Native.Nat.{ℕ, suc}
 use mathlib.Core.Path.{_≡_, refl, sym, _∙_, ap}
-use mathlib.Core.Bool.{Bool, true, false}
+use mathlib.Core.Bool.{Bool}
 use mathlib.Core.Option.{Option, none, some, Option·some-injective}
 use mathlib.Core.List.{List, [], _∷_}
 use lib.Dec.{leb}
-use Rattle.text.specs.Token.{Token, w, s}
-use Rattle.text.specs.Tokens.{Placed, _at_}
+use Rattle.text.specs.Token.{w, s}
+use Rattle.text.specs.Tokens.{_at_}
 use Rattle.rule.specs.Tree as Tree
 use Rattle.rule.specs.Tree.{Letter, Sought, Atom, Condition, Plain, Statement, Statements, Arms, Program, done, _then_}
 use Rattle.rule.specs.Grammar as Grammar
@@ -31,7 +31,7 @@ use Rattle.rule.specs.Grammar.{
 }
 use Rattle.rule.proofs.Machine as Machine
 use Rattle.rule.proofs.Machine.{Symbol, Stack, Value, Values, operand, tail, block, statements, orElse, arms, orAlso}
-use Rattle.rule.proofs.Steps.{Ts, Far, State, state, begin, eat}
+use Rattle.rule.proofs.Steps.{Ts, Is, is, Far, State, state, begin, eat}
 use Rattle.rule.proofs.Far.{
   counts,
   notes,
@@ -45,10 +45,6 @@ use Rattle.rule.proofs.Far.{
   lettersFar,
   programFar,
 }
-
--- the tokens begin with this one, and go on with these
-pub data Is (t : Token) : Ts → Ts → Type 0 where
-  is : {p : ℕ} {ts : Ts} → Is t ((t at p) ∷ ts) ts
 
 -- the symbol takes the tokens up to these, gives this, and comes so far
 abbrev pub Eats : (x : Symbol) → Ts → Value x → (Far → Far) → Ts → Type 0
@@ -294,12 +290,12 @@ pub program-eats : {ts : Ts} {x : Program} → IsProgram ts x
 unfolding eat programFar
 program-eats (Grammar.program h b) a k = settings-eats h [] a k ∙ block-eats b 0 [] _ _
 
-abbrev builtOn : (st : Stack) → (Values st → Program) → Option Program
+abbrev pub builtOn : (st : Stack) → (Values st → Program) → Option Program
 builtOn [] k = some (k tt)
 builtOn (x ∷ st) k = none
 
 -- the program that is made, where nothing more is expected
-abbrev built : Option State → Option Program
+abbrev pub built : Option State → Option Program
 built none = none
 built (some x) = builtOn (x .stack) (x .build)
 

@@ -1,11 +1,22 @@
 -- What comes of tokens and of a text: the machine takes exactly the programs that break no limit, and refuses exactly at
--- the first fault. So a text has one program or one first fault at most, and never both.
-use Prim.Native.Nat.{ℕ, suc, _<_}
+-- the first fault. So a text is one program or has one first fault, and never both.
+use Prim.Native.Nat.{ℕ, _<_}
 use native.Mathlib.Omega.{arith}
-use mathlib.Core.Path.{_≡_, refl, sym, _∙_, ap, ap₂, subst}
+use mathlib.Core.Path.{_≡_, refl, sym, _∙_, ap, subst}
 use mathlib.Core.Logic.{_⊎_, inl, inr}
-use mathlib.Core.Option.{Option, none, some, Option·none-ne-some, Option·some-ne-none, Option·some-injective}
-use mathlib.Core.List.{List, [], _∷_, _++_, append-nil, append-assoc, List·Memᴰ, List·Memᴰ·head, Memᴰ·append-left, Memᴰ·append-right, nil≢cons, cons≢nil, head-eq-of-cons-eq}
+use mathlib.Core.Option.{Option, none, some, Option·none-ne-some, Option·some-injective}
+use mathlib.Core.List.{
+  List,
+  [],
+  _∷_,
+  _++_,
+  append-assoc,
+  List·Memᴰ,
+  List·Memᴰ·head,
+  Memᴰ·append-left,
+  Memᴰ·append-right,
+  head-eq-of-cons-eq,
+}
 use Rattle.text.specs.Token.{Token}
 use Rattle.text.specs.Tokens.{Placed, _at_, Ending, ends, broken, TokensOf, Rising}
 use Rattle.text.proofs.Scan.{scan, Scanned}
@@ -16,7 +27,7 @@ use Rattle.rule.specs.Grammar.{IsProgram}
 use Rattle.rule.specs.Limits.{Fault, fault, faults}
 use Rattle.rule.specs.Faults.{GoesOn, Clean, Breaks, FirstFault, noToken, notHere, early, limit, Reads}
 use Rattle.rule.proofs.Counting.{programStates, programRows}
-use Rattle.rule.proofs.Machine.{Stack, atEnd, Outcome, taken, refused, outcome}
+use Rattle.rule.proofs.Machine.{Stack, Values, program, start, atEnd, Outcome, taken, refused, run, outcome}
 use Rattle.rule.proofs.Steps.{
   Ts,
   State,
@@ -33,9 +44,10 @@ use Rattle.rule.proofs.Steps.{
   view,
   eat-append,
   Adds,
+  grown,
   eat-adds,
 }
-use Rattle.rule.proofs.Complete.{program-eats, program-once}
+use Rattle.rule.proofs.Complete.{program-eats, builtOn, built, program-once}
 use Rattle.rule.proofs.Tally.{program-is}
 use Rattle.rule.proofs.Sound.{Ended, eaten-program}
 use Rattle.rule.proofs.Places.{placed, past, rising-more, rising-apart, rising-front}
@@ -58,61 +70,65 @@ final x =
 eats-program : {ts : Ts} {x : Program} → IsProgram ts x → eat begin ts ≡ some (final x)
 eats-program {ts} {x} d = program-eats d (begin .far) (begin .build) ∙ ap (λ a. some (state [] a (λ vs. x))) (program-is x)
 
+passed-final : {ts : Ts} {q : Program} (x : Passed ts) → IsProgram ts q → x .state ≡ final q
+passed-final {q = q} x d = Option·some-injective (x .state) (final q) (sym (x .eaten) ∙ eats-program d)
+
 -- behind tokens that are taken
 eat-then : (ts : Ts) {z : State} → eat begin ts ≡ some z → (us : Ts) → eat begin (ts ++ us) ≡ eat z us
 eat-then ts h us = eat-append begin ts us ∙ ap (λ (o : Option State). o >>= λ y. eat y us) h
 
-not-itself : {p : ℕ} → ¬ (p < p)
-not-itself h = omega arith
+-- tokens with which a program goes on are taken
+goes-taken : {ts : Ts} (c : GoesOn ts) → (y : State) × (eat begin ts ≡ some y)
+goes-taken {ts} c = go (eat begin ts) refl (sym (eat-append begin ts (c .after)) ∙ eats-program (c .derived))
+  where
+    go : (o : Option State)
+        → eat begin ts ≡ o
+        → (o >>= λ y. eat y (c .after)) ≡ some (final (c .program))
+        → (y : State) × (eat begin ts ≡ some y)
+    go none e h = absurd (Option·none-ne-some (final (c .program)) h)
+    go (some y) e h = (y, e)
+
+-- behind them the machine sees the rest of the program's faults
+goes-adds : {ts : Ts} (c : GoesOn ts) (z : State) → eat begin ts ≡ some z → Adds z (final (c .program)) (c .after)
+goes-adds {ts} c z h =
+    eat-adds z (final (c .program)) (c .after) (sym (eat-then ts h (c .after)) ∙ eats-program (c .derived))
+
+-- and with tokens that are taken a program goes on
+taken-goes : {ts : Ts} (z : State) → Rising ts → eat begin ts ≡ some z → GoesOn ts
+taken-goes {ts} z r h =
+    let us = placed (past ts) (shortAll (z .stack)) in
+    let (x, d) =
+    eaten-program
+    (ts ++ us)
+    (subst Ended (sym (eat-then ts h us)) (completes (z .stack) (z .far) (z .build) (past ts)))
+    in
+    record { after = us; program = x; rising = rising-more r (shortAll (z .stack)); derived = d }
+
+-- what stands after tokens is not at the place of one of them
+not-within : {ts : Ts} (c : GoesOn ts) {t u : Token} {p : ℕ} → List·Memᴰ (t at p) ts → ¬ List·Memᴰ (u at p) (c .after)
+not-within {ts} c {p = p} m n = let h : p < p = rising-apart ts (c .after) (c .rising) m n in omega arith
+
+-- tokens passed are clean
+passed-clean : {ts : Ts} → Rising ts → Passed ts → Clean ts
+passed-clean {ts} r x =
+    let c = taken-goes (x .state) r (x .eaten) in
+    let a = goes-adds c (x .state) (x .eaten) in
+    record {
+      goesOn = c;
+      within = λ n p t m k.
+          not-within c k (a .placed (fault n p) (subst (List·Memᴰ (fault n p)) (grown a (x .unseen)) m) .1);
+    }
 
 none-in : {A : Type 0} (l : List A) → ((a : A) → ¬ List·Memᴰ a l) → l ≡ []
 none-in [] h = refl
 none-in (a ∷ l) h = absurd (h a (List·Memᴰ·head refl))
 
--- what is taken in two parts
-split : (ts us : Ts) (z : State) → eat begin (ts ++ us) ≡ some z → (y : State) × (eat begin ts ≡ some y) × (eat y us ≡ some z)
-split ts us z h = go (eat begin ts) refl (sym (eat-append begin ts us) ∙ h)
-  where
-    go : (o : Option State) → eat begin ts ≡ o → (o >>= λ y. eat y us) ≡ some z → (y : State) × (eat begin ts ≡ some y) × (eat y us ≡ some z)
-    go none e h = absurd (Option·none-ne-some z h)
-    go (some y) e h = (y, e, h)
-
--- a program that begins with tokens which the machine takes; its faults are those seen, and then some in what comes after
-record Reached (ts : Ts) (z : State) : Type 0 where
-  goesOn : GoesOn ts
-  later : List Fault
-  faulty : faults (goesOn .program) ≡ z .far .seen ++ later
-  behind : (f : Fault) → List·Memᴰ f later → (u : Token) × List·Memᴰ (u at f .place) (goesOn .after)
-
-reached : {ts : Ts} (z : State) → Rising ts → eat begin ts ≡ some z → Reached ts z
-reached {ts} z r h =
-    let us = placed (past ts) (shortAll (z .stack)) in
-    let (x, d) = eaten-program (ts ++ us) (subst Ended (sym (eat-then ts h us)) (completes (z .stack) (z .far) (z .build) (past ts))) in
-    let a = eat-adds z (final x) us (sym (eat-then ts h us) ∙ eats-program d) in
-    record {
-      goesOn = record { after = us; program = x; rising = rising-more r (shortAll (z .stack)); derived = d };
-      later = a .new;
-      faulty = a .seen;
-      behind = a .placed;
-    }
-
--- tokens passed are clean
-passed-clean : {ts : Ts} → Rising ts → Passed ts → Clean ts
-passed-clean {ts} r x =
-    let c = reached (x .state) r (x .eaten) in
-    record {
-      goesOn = c .goesOn;
-      within = λ n p t m k.
-          let (u, q) = c .behind (fault n p) (subst (List·Memᴰ (fault n p)) (c .faulty ∙ ap (λ (l : List Fault). l ++ c .later) (x .unseen)) m) in
-          not-itself (rising-apart ts (c .goesOn .after) (c .goesOn .rising) k q);
-    }
-
 -- clean tokens are passed
 clean-passed : {ts : Ts} → Clean ts → Passed ts
 clean-passed {ts} c =
-    let (y, h, g) = split ts (c .goesOn .after) (final (c .goesOn .program)) (eats-program (c .goesOn .derived)) in
+    let (y, h) = goes-taken (c .goesOn) in
     let a = eat-adds begin y ts h in
-    let b = eat-adds y (final (c .goesOn .program)) (c .goesOn .after) g in
+    let b = goes-adds (c .goesOn) y h in
     record {
       state = y;
       eaten = h;
@@ -124,79 +140,83 @@ clean-passed {ts} c =
 rising-upto : (ts us : Ts) (u : Placed) → Rising (ts ++ (u ∷ us)) → Rising (ts ++ (u ∷ []))
 rising-upto ts us u r = rising-front (ts ++ (u ∷ [])) us (rw append-assoc r)
 
--- tokens with which a program goes on are taken
-goes-taken : {ts : Ts} (c : GoesOn ts) → (y : State) × (eat begin ts ≡ some y) × (eat y (c .after) ≡ some (final (c .program)))
-goes-taken {ts} c = split ts (c .after) (final (c .program)) (eats-program (c .derived))
+-- refusals
 
--- what the machine refuses is the first fault
 trace-fault : {text : List ℕ} {ts : Ts} {e : Ending} {n p : ℕ} → TokensOf text ts e → Trace ts e (refused n p) → FirstFault text n p
 trace-fault h (Trace.torn {ts = ts} x) = noToken ts h (passed-clean (rising h) x)
 trace-fault h (Trace.early {ts = ts} x g) =
-    early ts h (passed-clean (rising h) x) (λ q d.
-    g (ap (λ (y : State). y .stack) (Option·some-injective (x .state) (final q) (sym (x .eaten) ∙ eats-program d))))
+    early ts h (passed-clean (rising h) x) (λ q d. g (ap (λ (y : State). y .stack) (passed-final x d)))
 trace-fault h (Trace.stopped ts us u x g) =
     notHere ts us u h (passed-clean (rising-front ts _ (rising h)) x) (λ c.
-    let (y, k, _) = goes-taken c in
+    let (y, k) = goes-taken c in
     Option·none-ne-some y (sym g ∙ k))
 trace-fault h (Trace.limit ts us u z x g f) =
-    let c = reached z (rising-upto ts us _ (rising h)) g in
+    let c = taken-goes z (rising-upto ts us _ (rising h)) g in
+    let a = goes-adds c z g in
     limit
     ts
     us
     u
     h
     (passed-clean (rising-front ts _ (rising h)) x)
-    (record { goesOn = c .goesOn; others = c .later; first = c .faulty ∙ ap (λ (l : List Fault). l ++ c .later) f })
+    (record { goesOn = c; others = a .new; first = grown a f })
 
 outcome-is : {text : List ℕ} {ts : Ts} {e : Ending} → TokensOf text ts e → outcome text ≡ runs begin ts e
 unfolding outcome
 outcome-is h = ap (λ (r : Scanned). runs begin (r .tokens) (r .ending)) (tokens-scanned h)
 
-text-trace : (text : List ℕ) → Trace (scan text .tokens) (scan text .ending) (outcome text)
-text-trace text = rw (outcome-is (scan-right text)) (trace (scan text .tokens) (scan text .ending))
+text-trace : (text : List ℕ) {o : Outcome} → outcome text ≡ o → Trace (scan text .tokens) (scan text .ending) o
+text-trace text h =
+    subst
+    (Trace (scan text .tokens) (scan text .ending))
+    (sym (outcome-is (scan-right text)) ∙ h)
+    (trace (scan text .tokens) (scan text .ending))
 
--- the machine's refusal of a text is its first fault
+-- what the machine refuses in a text is its first fault
 pub refused-fault : {text : List ℕ} {n p : ℕ} → outcome text ≡ refused n p → FirstFault text n p
-refused-fault {text} h = trace-fault (scan-right text) (subst (Trace (scan text .tokens) (scan text .ending)) h (text-trace text))
+refused-fault {text} h = trace-fault (scan-right text) (text-trace text h)
 
 -- behind tokens passed, a token with which no program goes on, and one that breaks a limit
 module _ {ts : Ts} (x : Passed ts) (u : Token) (p : ℕ) (us : Ts) (e : Ending) where
   not-here : Rising (ts ++ ((u at p) ∷ [])) → ¬ GoesOn (ts ++ ((u at p) ∷ [])) → runs (x .state) ((u at p) ∷ us) e ≡ refused 4 p
   not-here r never = go (step (x .state) (u at p)) (view (x .state) u p) (eat-one x (u at p))
     where
-      go : (o : Option State) → View (x .state) u p o → eat begin (ts ++ ((u at p) ∷ [])) ≡ o → runs (x .state) ((u at p) ∷ us) e ≡ refused 4 p
+      go : (o : Option State)
+          → View (x .state) u p o
+          → eat begin (ts ++ ((u at p) ∷ [])) ≡ o
+          → runs (x .state) ((u at p) ∷ us) e ≡ refused 4 p
       go none (stops s) h = s us e
-      go (some z) s h = absurd (never (reached z r h .goesOn))
+      go (some z) s h = absurd (never (taken-goes z r h))
 
   over-limit : {n : ℕ} → Breaks (ts ++ ((u at p) ∷ [])) (fault n p) → runs (x .state) ((u at p) ∷ us) e ≡ refused n p
   over-limit {n} b = go (step (x .state) (u at p)) (view (x .state) u p) (eat-one x (u at p))
     where
-      after : Ts
-      after = b .goesOn .after
-
-      adds : (y : State) → eat begin (ts ++ ((u at p) ∷ [])) ≡ some y → Adds y (final (b .goesOn .program)) after
-      adds y h = eat-adds y (final (b .goesOn .program)) after (sym (eat-then (ts ++ ((u at p) ∷ [])) h after) ∙ eats-program (b .goesOn .derived))
-
-      go : (o : Option State) → View (x .state) u p o → eat begin (ts ++ ((u at p) ∷ [])) ≡ o → runs (x .state) ((u at p) ∷ us) e ≡ refused n p
-      go none (stops s) h = let (z, k, _) = goes-taken (b .goesOn) in absurd (Option·none-ne-some z (sym h ∙ k))
+      go : (o : Option State)
+          → View (x .state) u p o
+          → eat begin (ts ++ ((u at p) ∷ [])) ≡ o
+          → runs (x .state) ((u at p) ∷ us) e ≡ refused n p
+      go none s h = let (z, k) = goes-taken (b .goesOn) in absurd (Option·none-ne-some z (sym h ∙ k))
       go (some y) (passes f s) h =
-          let a = adds y h in
-          let same : fault n p ∷ b .others ≡ a .new = sym (b .first) ∙ a .seen ∙ ap (λ (l : List Fault). l ++ a .new) (f ∙ x .unseen) in
+          let a = goes-adds (b .goesOn) y h in
+          let same : fault n p ∷ b .others ≡ a .new = sym (b .first) ∙ grown a (f ∙ x .unseen) in
           let (v, k) = a .placed (fault n p) (subst (List·Memᴰ (fault n p)) same (List·Memᴰ·head refl)) in
-          absurd (not-itself (rising-apart (ts ++ ((u at p) ∷ [])) after (b .goesOn .rising) (Memᴰ·append-right ts (List·Memᴰ·head refl)) k))
+          absurd (not-within (b .goesOn) (Memᴰ·append-right ts (List·Memᴰ·head refl)) k)
       go (some y) (breaks m f s) h =
-          let a = adds y h in
-          let same : fault n p ∷ b .others ≡ fault m p ∷ a .new = sym (b .first) ∙ a .seen ∙ ap (λ (l : List Fault). l ++ a .new) (f ∙ ap (λ (l : List Fault). l ++ (fault m p ∷ [])) (x .unseen)) in
+          let a = goes-adds (b .goesOn) y h in
+          let seen : y .far .seen ≡ fault m p ∷ [] = f ∙ ap (λ (l : List Fault). l ++ (fault m p ∷ [])) (x .unseen) in
+          let same : fault n p ∷ b .others ≡ fault m p ∷ a .new = sym (b .first) ∙ grown a seen in
           s us e ∙ ap (λ (g : Fault). refused (g .number) p) (sym (head-eq-of-cons-eq same))
 
-early-end : {ts : Ts} (x : Passed ts) (p : ℕ) → ((q : Program) → ¬ IsProgram ts q) → atEnd (x .state .stack) (x .state .far .totals) (ends p) ≡ refused 4 p
+early-end : {ts : Ts} (x : Passed ts) (p : ℕ)
+    → ((q : Program) → ¬ IsProgram ts q)
+    → atEnd (x .state .stack) (x .state .far .totals) (ends p) ≡ refused 4 p
 early-end {ts} x p never = go (x .state .stack) refl
   where
     go : (st : Stack) → x .state .stack ≡ st → atEnd st (x .state .far .totals) (ends p) ≡ refused 4 p
     go [] h = let (q, d) = eaten-program ts (subst Ended (sym (x .eaten)) h) in absurd (never q d)
     go (y ∷ st) h = refl
 
--- and a first fault of a text is what the machine refuses
+-- a first fault of a text is what the machine refuses
 pub fault-refused : {text : List ℕ} {n p : ℕ} → FirstFault text n p → outcome text ≡ refused n p
 fault-refused (noToken {p = p} ts h c) = outcome-is h ∙ passed-end (clean-passed c) (broken p)
 fault-refused (notHere {p = p} ts us u {e = e} h c never) =
@@ -209,49 +229,80 @@ fault-refused (limit {p = p} ts us u {e = e} h c b) =
     let x = clean-passed c in
     outcome-is h ∙ passed-runs x ((u at p) ∷ us) e ∙ over-limit x u p us e b
 
--- the machine takes the tokens of a program that breaks no limit, and counts its states and rows
-pub complete : {ts : Ts} {x : Program} → IsProgram ts x → faults x ≡ [] → (p : ℕ) → runs begin ts (ends p) ≡ taken (programStates x) (programRows x)
+-- programs
+
+-- the tokens of a program that breaks no limit are taken, with its states and rows
+pub complete : {ts : Ts} {x : Program} → IsProgram ts x
+    → faults x ≡ []
+    → (p : ℕ)
+    → run (program ∷ []) start ts (ends p) ≡ taken (programStates x) (programRows x)
 complete {x = x} d h p = passed-end (record { state = final x; eaten = eats-program d; unseen = h }) (ends p)
 
 -- a program of these tokens that breaks no limit, with so many states and rows
 pub record Taken (ts : Ts) (a b : ℕ) : Type 0 where
-  pub program : Program
-  pub derived : IsProgram ts program
-  pub faultless : faults program ≡ []
-  pub states : a ≡ programStates program
-  pub rows : b ≡ programRows program
+  pub tree : Program
+  pub derived : IsProgram ts tree
+  pub faultless : faults tree ≡ []
+  pub states : a ≡ programStates tree
+  pub rows : b ≡ programRows tree
 
-passed-program : {ts : Ts} (x : Passed ts) → x .state .stack ≡ [] → Taken ts (x .state .far .totals .states) (x .state .far .totals .rows)
-passed-program {ts} x h =
+trace-taken : {ts : Ts} {e : Ending} {a b : ℕ} → Trace ts e (taken a b) → Taken ts a b
+trace-taken (Trace.whole {ts = ts} x h) =
     let (q, d) = eaten-program ts (subst Ended (sym (x .eaten)) h) in
-    let same = Option·some-injective (x .state) (final q) (sym (x .eaten) ∙ eats-program d) in
+    let same = passed-final x d in
     record {
-      program = q;
+      tree = q;
       derived = d;
       faultless = sym (ap (λ (y : State). y .far .seen) same) ∙ x .unseen;
       states = ap (λ (y : State). y .far .totals .states) same;
       rows = ap (λ (y : State). y .far .totals .rows) same;
     }
 
-trace-taken : {ts : Ts} {e : Ending} {a b : ℕ} → Trace ts e (taken a b) → Taken ts a b
-trace-taken (Trace.whole x h) = passed-program x h
-
--- what the machine takes is such a program
-pub sound : (ts : Ts) (e : Ending) {a b : ℕ} → runs begin ts e ≡ taken a b → Taken ts a b
+-- tokens that are taken are such a program
+pub sound : (ts : Ts) (e : Ending) {a b : ℕ} → run (program ∷ []) start ts e ≡ taken a b → Taken ts a b
 sound ts e h = trace-taken (subst (Trace ts e) h (trace ts e))
+
+built-ended : (o : Option State) {x : Program} → built o ≡ some x → Ended o
+built-ended none {x} h = absurd (Option·none-ne-some x h)
+built-ended (some y) {x} h = go (y .stack) (y .build) h
+  where
+    go : (st : Stack) (k : Values st → Program) → builtOn st k ≡ some x → st ≡ []
+    go [] k h = refl
+    go (z ∷ st) k h = absurd (Option·none-ne-some x h)
+
+-- the program that the machine makes of tokens is derived from them: by computing, so are samples
+pub built-program : (ts : Ts) {x : Program} → built (eat begin ts) ≡ some x → IsProgram ts x
+built-program ts {x} h =
+    let (q, d) = eaten-program ts (built-ended (eat begin ts) h) in
+    subst (IsProgram ts) (Option·some-injective q x (sym (ap built (eats-program d)) ∙ h)) d
 
 -- a text that is a program without faults is taken
 pub reads-taken : {text : List ℕ} {x : Program} → Reads text x → outcome text ≡ taken (programStates x) (programRows x)
 reads-taken r = outcome-is (r .ofText) ∙ complete (r .derived) (r .faultless) (r .place)
 
-trace-reads : {text : List ℕ} {ts : Ts} {e : Ending} {a b : ℕ} → TokensOf text ts e → Trace ts e (taken a b) → (x : Program) × Reads text x × (a ≡ programStates x) × (b ≡ programRows x)
-trace-reads h (Trace.whole {p = p} {ts = ts} x g) =
-    let t = passed-program x g in
-    (t .program, record { tokens = ts; place = p; ofText = h; derived = t .derived; faultless = t .faultless }, t .states, t .rows)
+trace-ends : {ts : Ts} {e : Ending} {a b : ℕ} → Trace ts e (taken a b) → (p : ℕ) × (e ≡ ends p)
+trace-ends (Trace.whole {p = p} x h) = (p, refl)
 
--- and a text that is taken is such a program
-pub taken-reads : {text : List ℕ} {a b : ℕ} → outcome text ≡ taken a b → (x : Program) × Reads text x × (a ≡ programStates x) × (b ≡ programRows x)
-taken-reads {text} h = trace-reads (scan-right text) (subst (Trace (scan text .tokens) (scan text .ending)) h (text-trace text))
+-- a text that is taken is such a program
+pub taken-reads : {text : List ℕ} {a b : ℕ}
+    → outcome text ≡ taken a b
+    → (x : Program) × Reads text x × (a ≡ programStates x) × (b ≡ programRows x)
+taken-reads {text} h =
+    let t = trace-taken (text-trace text h) in
+    let (p, e) = trace-ends (text-trace text h) in (
+      t .tree,
+      record {
+        tokens = scan text .tokens;
+        place = p;
+        ofText = subst (TokensOf text (scan text .tokens)) e (scan-right text);
+        derived = t .derived;
+        faultless = t .faultless;
+      },
+      t .states,
+      t .rows,
+    )
+
+-- a text is read in one way
 
 abbrev numbers : Outcome → ℕ × ℕ
 numbers (taken a b) = (a, b)
@@ -276,7 +327,7 @@ pub reads-once : {text : List ℕ} {x y : Program} → Reads text x → Reads te
 reads-once {y = y} r s =
     program-once (r .derived) (subst (λ (ts : Ts). IsProgram ts y) (tokens-once (s .ofText) (r .ofText) .0) (s .derived))
 
--- every text is a program without faults, or has a first fault
+-- every text is a program without faults or has a first fault
 pub reads-or-fault : (text : List ℕ) → ((x : Program) × Reads text x) ⊎ ((n : ℕ) × (p : ℕ) × FirstFault text n p)
 reads-or-fault text = go (outcome text) refl
   where

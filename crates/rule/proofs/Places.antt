@@ -2,8 +2,7 @@
 use Prim.Native.Nat.{ℕ, suc, _<_}
 use native.Mathlib.Nat.{le-refl}
 use native.Mathlib.Omega.{arith}
-use mathlib.Core.Path.{_≡_, ap, subst}
-use mathlib.Core.Logic.{⊎-elim}
+use mathlib.Core.Path.{ap}
 use mathlib.Core.List.{List, [], _∷_, _++_, List·Memᴰ, List·Memᴰ·head, List·Memᴰ·tail, List·Memᴰ·not-nil, Memᴰ·append-right}
 use Rattle.text.specs.Token.{Token}
 use Rattle.text.specs.Tokens.{Placed, _at_, Rising, empty, single, rises}

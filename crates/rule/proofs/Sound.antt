@@ -1,41 +1,22 @@
 -- What the machine takes is derived: each symbol has a meaning in the grammar, and each move keeps it.
-use Prim.Native.Nat.{ℕ, suc}
-use mathlib.Core.Path.{_≡_, refl, sym, _∙_, ap, subst}
+use Prim.Native.Nat.{ℕ}
+use mathlib.Core.Path.{_≡_, refl, sym, subst}
 use mathlib.Core.Bool.{Bool, true, false}
 use mathlib.Core.Option.{Option, none, some}
 use mathlib.Core.List.{List, [], _∷_, _++_, map, cons≢nil}
 use lib.Dec.{T}
 use Rattle.text.specs.Token as Token
 use Rattle.text.specs.Token.{Token, w, s}
-use Rattle.text.specs.Tokens.{Placed, _at_}
+use Rattle.text.specs.Tokens.{_at_}
 use Rattle.text.proofs.Same.{sameToken, same-token}
 use Rattle.rule.specs.Tree as Tree
 use Rattle.rule.specs.Tree.{Number, Letter, Condition, Plain, Statement, Statements, Program, _then_}
 use Rattle.rule.specs.Grammar as Grammar
-use Rattle.rule.specs.Grammar.{
-  IsSought,
-  IsAtom,
-  Binding,
-  loosest,
-  middle,
-  tightest,
-  IsCondition,
-  IsPlain,
-  IsStatement,
-  IsArms,
-  IsBlock,
-  IsStatements,
-  IsLetters,
-  IsAlphabet,
-  IsDecrement,
-  IsSettings,
-  IsProgram,
-}
+use Rattle.rule.specs.Grammar.{IsSought, IsAtom, loosest, middle, tightest, IsCondition, IsPlain, IsStatement, IsArms, IsBlock, IsStatements, IsLetters, IsAlphabet, IsDecrement, IsSettings, IsProgram}
 use Rattle.rule.proofs.Class.{Mark, spell, Class, mark, number, letter, other, tokenOf, classify, token-of-class}
 use Rattle.rule.proofs.Machine as Machine
 use Rattle.rule.proofs.Machine.{Symbol, Stack, Value, Values, Totals, Move, Choice, on, onNumber, onLetter, along, alongChoice, also, statementChoices, choices, take, pick, move}
-use Rattle.rule.proofs.Steps.{Ts, Far, State, state, begin, follow, eat, _>>=_}
-use Rattle.rule.proofs.Complete.{Is, is}
+use Rattle.rule.proofs.Steps.{Ts, Is, is, Far, State, state, begin, follow, eat, _>>=_}
 
 data IsNumber : Ts → Number → Ts → Type 0 where
   isNumber : {n : List ℕ} {p : ℕ} {ts : Ts} → IsNumber ((Token.number n at p) ∷ ts) (record { digits = n; place = p }) ts
@@ -86,29 +67,34 @@ Means Machine.readTest ts a us = (p : ℕ) → IsAtom ((w "read" at p) ∷ ts) a
 Means Machine.counterTest ts a us = (p : ℕ) → IsAtom ((w "c" at p) ∷ ts) a us
 Means Machine.sought ts x us = IsSought ts x us
 
--- the tokens are those of the symbols of a stack
 data Over : Ts → Type 0 where
   over : Over []
 
-abbrev Reads : (st : Stack) → Ts → Values st → Type 0
-Reads [] ts vs = Over ts
-Reads (x ∷ st) ts vs = (us : Ts) × Means x ts (vs .0) us × Reads st us (vs .1)
+-- all the tokens are those of the symbols of a stack
+abbrev MeansAll : (st : Stack) → Ts → Values st → Type 0
+MeansAll [] ts vs = Over ts
+MeansAll (x ∷ st) ts vs = (us : Ts) × Means x ts (vs .0) us × MeansAll st us (vs .1)
 
 -- a move by this token keeps the meaning
 abbrev Keeps : {A : Type 0} → (Ts → A → Ts → Type 0) → Token → ℕ → Move A → Type 0
 Keeps M t p m =
     (st : Stack) (ts : Ts) (vs : Values (m .push ++ st))
-    → Reads (m .push ++ st) ts vs
-    → (us : Ts) × M ((t at p) ∷ ts) (m .makes st vs .0) us × Reads st us (m .makes st vs .1)
+    → MeansAll (m .push ++ st) ts vs
+    → (us : Ts) × M ((t at p) ∷ ts) (m .makes st vs .0) us × MeansAll st us (m .makes st vs .1)
 
 abbrev KeepsChoice : {A : Type 0} → (Ts → A → Ts → Type 0) → ℕ → Choice A → Type 0
 KeepsChoice M p (on m r) = Keeps M (spell m) p r
 KeepsChoice M p (onNumber r) = (n : List ℕ) → Keeps M (Token.number n) p (r n)
 KeepsChoice M p (onLetter r) = (b : ℕ) → Keeps M (Token.letter b) p (r b)
 
+-- so does each choice, one proof behind another
 abbrev KeepsAll : {A : Type 0} → (Ts → A → Ts → Type 0) → ℕ → List (Choice A) → Type 0
 KeepsAll M p [] = Unit {0}
 KeepsAll M p (r ∷ rs) = KeepsChoice M p r × KeepsAll M p rs
+
+infixr 20 _&_
+abbrev _&_ : {A B : Type 0} → A → B → A × B
+a & b = (a, b)
 
 -- a condition up to `)`
 condition : {ts us vs : Ts} {c : Condition} {f g : Condition → Condition}
@@ -143,31 +129,17 @@ if-keeps : {p o : ℕ} {ts us vs ws xs ys : Ts} {c : Condition} {f g : Condition
 if-keeps is c t b e = e _ _ _ _ _ _ _ _ (condition c t .1) b
 
 statements-keep : (t : Totals) (p d : ℕ) → KeepsAll Closed p (statementChoices t p d)
-statements-keep t p d = (
-  (λ st ts vs r. (ts, (p, Grammar.none), r)),
-  (
-    (λ st ts vs (_, i, (_, e, (us, b, r))). (us, then-closed (move-keeps i e) b, r)),
-    (
-      (λ st ts vs (_, i, (_, e, (us, b, r))). (us, then-closed (goto-keeps i e) b, r)),
-      (
-        (λ st ts vs (_, e, (us, b, r)). (us, then-closed (Grammar.plain (e p)) b, r)),
-        (
-          (λ st ts vs (_, i, (us, b, r)). (us, then-closed (accept-keeps i) b, r)),
-          (
-            (λ st ts vs (_, i, (us, b, r)). (us, then-closed (reject-keeps i) b, r)),
-            (
-              (λ st ts vs (_, i, (_, c, (_, f, (_, b, (us, e, r))))). (us, if-keeps i c f b e, r)),
-              (
-                (λ st ts vs (_, a, (us, b, r)). (us, then-closed (a p) b, r)),
-                ((λ st ts vs (_, b, (us, (_, a, c), r)). (us, then-closed (Grammar.branch b a) c, r)), tt),
-              ),
-            ),
-          ),
-        ),
-      ),
-    ),
-  ),
-)
+statements-keep t p d =
+    (λ st ts vs r. (ts, (p, Grammar.none), r))
+    & (λ st ts vs (_, i, (_, e, (us, b, r))). (us, then-closed (move-keeps i e) b, r))
+    & (λ st ts vs (_, i, (_, e, (us, b, r))). (us, then-closed (goto-keeps i e) b, r))
+    & (λ st ts vs (_, e, (us, b, r)). (us, then-closed (Grammar.plain (e p)) b, r))
+    & (λ st ts vs (_, i, (us, b, r)). (us, then-closed (accept-keeps i) b, r))
+    & (λ st ts vs (_, i, (us, b, r)). (us, then-closed (reject-keeps i) b, r))
+    & (λ st ts vs (_, i, (_, c, (_, f, (_, b, (us, e, r))))). (us, if-keeps i c f b e, r))
+    & (λ st ts vs (_, a, (us, b, r)). (us, then-closed (a p) b, r))
+    & (λ st ts vs (_, b, (us, (_, a, c), r)). (us, then-closed (Grammar.branch b a) c, r))
+    & tt
 
 -- a choice seen as one of another symbol
 module _ {A B : Type 0} (f : A → B) (M : Ts → A → Ts → Type 0) (N : Ts → B → Ts → Type 0)
@@ -185,13 +157,13 @@ module _ {A B : Type 0} (f : A → B) (M : Ts → A → Ts → Type 0) (N : Ts �
   all-keep (r ∷ rs) h = (choice-keeps r (h .0), all-keep rs (h .1))
 
 -- settings
-settings-keep : {p : ℕ} {ts us vs ws xs : Ts} {l : List Letter}
+alphabet-keeps : {p : ℕ} {ts us vs ws xs : Ts} {l : List Letter}
     → Is (s "=") ts us
     → Is (s "[") us vs
     → Means Machine.letters vs l ws
     → Is (s ";") ws xs
     → IsAlphabet ((w "alphabet" at p) ∷ ts) l xs
-settings-keep is is l is = Grammar.alphabet (l .1)
+alphabet-keeps is is l is = Grammar.alphabet (l .1)
 
 decrement-keeps : {p : ℕ} {ts us vs : Ts} {d : Bool} → Is (s "=") ts us → Means Machine.truth us d vs → IsDecrement ((w "decr_on_zero" at p) ∷ ts) d vs
 decrement-keeps is d = d _ _
@@ -225,17 +197,17 @@ lend-keeps is is p q = Grammar.gotoLend
 rend-keeps : {r : ℕ} {ts us vs : Ts} → Is (s ")") ts us → Is (s ";") us vs → Means Machine.end ((w "rend" at r) ∷ ts) Tree.gotoRend vs
 rend-keeps is is p q = Grammar.gotoRend
 
-increment-keeps : {q : ℕ} {ts us : Ts} → Is (s ";") ts us → Means Machine.change ((s "++" at q) ∷ ts) Tree.increment us
-increment-keeps is p = Grammar.increment
+plusPlus-keeps : {q : ℕ} {ts us : Ts} → Is (s ";") ts us → Means Machine.change ((s "++" at q) ∷ ts) Tree.increment us
+plusPlus-keeps is p = Grammar.increment
 
-decrement-keeps′ : {q : ℕ} {ts us : Ts} → Is (s ";") ts us → Means Machine.change ((s "--" at q) ∷ ts) Tree.decrement us
-decrement-keeps′ is p = Grammar.decrement
+minusMinus-keeps : {q : ℕ} {ts us : Ts} → Is (s ";") ts us → Means Machine.change ((s "--" at q) ∷ ts) Tree.decrement us
+minusMinus-keeps is p = Grammar.decrement
 
-add-keeps : {q : ℕ} {n : Number} {ts us vs : Ts} → IsNumber ts n us → Is (s ";") us vs → Means Machine.change ((s "+=" at q) ∷ ts) (Tree.add n) vs
-add-keeps isNumber is p = Grammar.add
+plusEquals-keeps : {q : ℕ} {n : Number} {ts us vs : Ts} → IsNumber ts n us → Is (s ";") us vs → Means Machine.change ((s "+=" at q) ∷ ts) (Tree.add n) vs
+plusEquals-keeps isNumber is p = Grammar.add
 
-subtract-keeps : {q : ℕ} {n : Number} {ts us vs : Ts} → IsNumber ts n us → Is (s ";") us vs → Means Machine.change ((s "-=" at q) ∷ ts) (Tree.subtract n) vs
-subtract-keeps isNumber is p = Grammar.subtract
+minusEquals-keeps : {q : ℕ} {n : Number} {ts us vs : Ts} → IsNumber ts n us → Is (s ";") us vs → Means Machine.change ((s "-=" at q) ∷ ts) (Tree.subtract n) vs
+minusEquals-keeps isNumber is p = Grammar.subtract
 
 -- atoms
 counterIs-keeps : {q : ℕ} {n : Number} {ts us : Ts} → IsNumber ts n us → Means Machine.counterTest ((s "==" at q) ∷ ts) (Tree.counterIs n) us
@@ -249,100 +221,89 @@ also-keeps : (t : Totals) (p d n : ℕ) → Keeps (Means (Machine.arms d n)) (w 
 also-keeps t p d n st ts vs (_, b, (us, (_, f, c), r)) = (us, (_, f p _ _ _ b, c), r)
 
 choices-keep : (t : Totals) (p : ℕ) (x : Symbol) → KeepsAll (Means x) p (choices t p x)
-choices-keep t p (Machine.exact m) = ((λ st ts vs r. (ts, is, r)), tt)
-choices-keep t p Machine.program = (
-  (λ st ts vs (_, i, (_, j, (_, l, (_, k, (_, d, (us, b, r)))))). (us, (_, Grammar.alphabetFirst (settings-keep i j l k) d, b), r)),
-  ((λ st ts vs (_, i, (_, d, (_, l, (us, b, r)))). (us, (_, Grammar.decrementFirst (decrement-keeps i d) l, b), r)), tt),
-)
-choices-keep t p Machine.alphabet = ((λ st ts vs (_, i, (_, j, (_, l, (us, k, r)))). (us, settings-keep i j l k, r)), tt)
-choices-keep t p Machine.decrement = ((λ st ts vs (_, i, (us, d, r)). (us, decrement-keeps i d, r)), tt)
-choices-keep t p Machine.letters = ((λ b st ts vs (us, l, r). (us, (l .0, l .1 p b), r)), tt)
-choices-keep t p Machine.moreLetters = (
-  (λ st ts vs r. (ts, (p, λ q b. Grammar.one), r)),
-  ((λ st ts vs (us, l, r). (us, (l .0, λ q b. Grammar.more (l .1)), r)), tt),
-)
+choices-keep t p (Machine.exact m) = (λ st ts vs r. (ts, is, r)) & tt
+choices-keep t p Machine.program =
+    (λ st ts vs (_, i, (_, j, (_, l, (_, k, (_, d, (us, b, r)))))). (us, (_, Grammar.alphabetFirst (alphabet-keeps i j l k) d, b), r))
+    & (λ st ts vs (_, i, (_, d, (_, l, (us, b, r)))). (us, (_, Grammar.decrementFirst (decrement-keeps i d) l, b), r))
+    & tt
+choices-keep t p Machine.alphabet = (λ st ts vs (_, i, (_, j, (_, l, (us, k, r)))). (us, alphabet-keeps i j l k, r)) & tt
+choices-keep t p Machine.decrement = (λ st ts vs (_, i, (us, d, r)). (us, decrement-keeps i d, r)) & tt
+choices-keep t p Machine.letters = (λ b st ts vs (us, l, r). (us, (l .0, l .1 p b), r)) & tt
+choices-keep t p Machine.moreLetters =
+    (λ st ts vs r. (ts, (p, λ q b. Grammar.one), r))
+    & (λ st ts vs (us, l, r). (us, (l .0, λ q b. Grammar.more (l .1)), r))
+    & tt
 choices-keep t p Machine.truth =
-    ((λ st ts vs (us, i, r). (us, true-keeps i p, r)), ((λ st ts vs (us, i, r). (us, false-keeps i p, r)), tt))
-choices-keep t p Machine.body = ((λ st ts vs (_, i, (_, j, (_, k, (us, b, r)))). (us, body-keeps i j k b, r)), tt)
-choices-keep t p (Machine.block d) = ((λ st ts vs (us, b, r). (us, Grammar.block (b .1), r)), tt)
+    (λ st ts vs (us, i, r). (us, true-keeps i p, r)) & (λ st ts vs (us, i, r). (us, false-keeps i p, r)) & tt
+choices-keep t p Machine.body = (λ st ts vs (_, i, (_, j, (_, k, (us, b, r)))). (us, body-keeps i j k b, r)) & tt
+choices-keep t p (Machine.block d) = (λ st ts vs (us, b, r). (us, Grammar.block (b .1), r)) & tt
 choices-keep t p (Machine.statements d) = statements-keep t p d
-choices-keep t p (Machine.orElse d) = (
-  (λ st ts vs (_, b′, (us, a, r)). (us, (λ q z y o u v c b cd bd. then-closed (Grammar.ifElse cd bd b′) a), r)),
-  all-keep
-      _
-      Closed
-      (Means (Machine.orElse d))
-      (λ ts a us h q z y o u v c b cd bd. then-closed (Grammar.if cd bd) h)
-      p
-      (statementChoices t p d)
-      (statements-keep t p d),
-)
-choices-keep t p (Machine.arms d n) = (also-keeps t p d n, tt)
-choices-keep t p (Machine.orAlso d n) = (
-  along-keeps
-      _
-      (Means (Machine.arms d n))
-      (Means (Machine.orAlso d n))
-      (λ ts a us (ms, x, c). (ms, (λ q o u b k. Grammar.moreArms k x), c))
-      p
-      (w "also")
-      (also t p d n)
-      (also-keeps t p d n),
-  all-keep
-      _
-      Closed
-      (Means (Machine.orAlso d n))
-      (λ ts a us h. (ts, (λ q o u b k. Grammar.lastArm k), h))
-      p
-      (statementChoices t p d)
-      (statements-keep t p d),
-)
-choices-keep t p (Machine.loop d) = (
-  (λ st ts vs (_, c, (_, f, (us, b, r))). (us, (λ q. Grammar.while (condition c f .1) b), r)),
-  ((λ st ts vs (us, b, r). (us, (λ q. Grammar.choose b), r)), tt),
-)
-choices-keep t p Machine.distance = (
-  (λ n st ts vs (_, i, (us, j, r)). (us, moveBy-keeps i j, r)),
-  ((λ st ts vs (_, n, (_, i, (us, j, r))). (us, moveBack-keeps n i j, r)), tt),
-)
+choices-keep t p (Machine.orElse d) =
+    (λ st ts vs (_, b′, (us, a, r)). (us, (λ q z y o u v c b cd bd. then-closed (Grammar.ifElse cd bd b′) a), r))
+    & all-keep
+    _
+    Closed
+    (Means (Machine.orElse d))
+    (λ ts a us h q z y o u v c b cd bd. then-closed (Grammar.if cd bd) h)
+    p
+    (statementChoices t p d)
+    (statements-keep t p d)
+choices-keep t p (Machine.arms d n) = also-keeps t p d n & tt
+choices-keep t p (Machine.orAlso d n) =
+    along-keeps
+    _
+    (Means (Machine.arms d n))
+    (Means (Machine.orAlso d n))
+    (λ ts a us (ms, x, c). (ms, (λ q o u b k. Grammar.moreArms k x), c))
+    p
+    (w "also")
+    (also t p d n)
+    (also-keeps t p d n)
+    & all-keep
+    _
+    Closed
+    (Means (Machine.orAlso d n))
+    (λ ts a us h. (ts, (λ q o u b k. Grammar.lastArm k), h))
+    p
+    (statementChoices t p d)
+    (statements-keep t p d)
+choices-keep t p (Machine.loop d) =
+    (λ st ts vs (_, c, (_, f, (us, b, r))). (us, (λ q. Grammar.while (condition c f .1) b), r))
+    & (λ st ts vs (us, b, r). (us, (λ q. Grammar.choose b), r))
+    & tt
+choices-keep t p Machine.distance =
+    (λ n st ts vs (_, i, (us, j, r)). (us, moveBy-keeps i j, r))
+    & (λ st ts vs (_, n, (_, i, (us, j, r))). (us, moveBack-keeps n i j, r))
+    & tt
 choices-keep t p Machine.end =
-    ((λ st ts vs (_, i, (us, j, r)). (us, lend-keeps i j, r)), ((λ st ts vs (_, i, (us, j, r)). (us, rend-keeps i j, r)), tt))
-choices-keep t p Machine.change = (
-  (λ st ts vs (us, i, r). (us, increment-keeps i, r)),
-  (
-    (λ st ts vs (us, i, r). (us, decrement-keeps′ i, r)),
-    (
-      (λ st ts vs (_, n, (us, i, r)). (us, add-keeps n i, r)),
-      ((λ st ts vs (_, n, (us, i, r)). (us, subtract-keeps n i, r)), tt),
-    ),
-  ),
-)
-choices-keep t p (Machine.number greatest) = ((λ n st ts vs r. (ts, isNumber, r)), tt)
-choices-keep t p (Machine.operand n) = (
-  (λ st ts vs (us, a, r). (us, Grammar.atom (a p), r)),
-  (
-    (λ st ts vs (us, a, r). (us, Grammar.atom (a p), r)),
-    (
-      (λ st ts vs (_, c, (us, f, r)). (us, Grammar.parens (condition c f .1), r)),
-      ((λ st ts vs (us, c, r). (us, Grammar.negation c, r)), tt),
-    ),
-  ),
-)
-choices-keep t p (Machine.tail n) = (
-  (λ st ts vs r. (ts, (_, (λ u c d. Grammar.tighter d), (p, λ u c d. Grammar.tight d)), r)),
-  (
-    (λ st ts vs (_, d, (us, f, r)). (us, (f .0, (λ u c e. Grammar.both e (f .1 _ _ d)), f .2), r)),
-    ((λ st ts vs (_, d, (us, f, r)). (us, (_, (λ u c e. Grammar.tighter e), (condition d f .0, λ u c e. Grammar.either e (condition d f .1))), r)), tt),
-  ),
-)
+    (λ st ts vs (_, i, (us, j, r)). (us, lend-keeps i j, r)) & (λ st ts vs (_, i, (us, j, r)). (us, rend-keeps i j, r)) & tt
+choices-keep t p Machine.change =
+    (λ st ts vs (us, i, r). (us, plusPlus-keeps i, r))
+    & (λ st ts vs (us, i, r). (us, minusMinus-keeps i, r))
+    & (λ st ts vs (_, n, (us, i, r)). (us, plusEquals-keeps n i, r))
+    & (λ st ts vs (_, n, (us, i, r)). (us, minusEquals-keeps n i, r))
+    & tt
+choices-keep t p (Machine.number greatest) = (λ n st ts vs r. (ts, isNumber, r)) & tt
+choices-keep t p (Machine.operand n) =
+    (λ st ts vs (us, a, r). (us, Grammar.atom (a p), r))
+    & (λ st ts vs (us, a, r). (us, Grammar.atom (a p), r))
+    & (λ st ts vs (_, c, (us, f, r)). (us, Grammar.parens (condition c f .1), r))
+    & (λ st ts vs (us, c, r). (us, Grammar.negation c, r))
+    & tt
+choices-keep t p (Machine.tail n) =
+    (λ st ts vs r. (ts, (_, (λ u c d. Grammar.tighter d), (p, λ u c d. Grammar.tight d)), r))
+    & (λ st ts vs (_, d, (us, f, r)). (us, (f .0, (λ u c e. Grammar.both e (f .1 _ _ d)), f .2), r))
+    & (λ st ts vs (_, d, (us, f, r)).
+    (us, (_, (λ u c e. Grammar.tighter e), (condition d f .0, λ u c e. Grammar.either e (condition d f .1))), r))
+    & tt
 choices-keep t p Machine.readTest =
-    ((λ st ts vs (us, x, r). (us, (λ q. Grammar.readIs x), r)), ((λ st ts vs (us, x, r). (us, (λ q. Grammar.readIsNot x), r)), tt))
+    (λ st ts vs (us, x, r). (us, (λ q. Grammar.readIs x), r)) & (λ st ts vs (us, x, r). (us, (λ q. Grammar.readIsNot x), r)) & tt
 choices-keep t p Machine.counterTest =
-    ((λ st ts vs (us, n, r). (us, counterIs-keeps n, r)), ((λ st ts vs (us, n, r). (us, counterIsNot-keeps n, r)), tt))
+    (λ st ts vs (us, n, r). (us, counterIs-keeps n, r)) & (λ st ts vs (us, n, r). (us, counterIsNot-keeps n, r)) & tt
 choices-keep t p Machine.sought =
-    ((λ b st ts vs r. (ts, Grammar.aLetter, r)), ((λ st ts vs r. (ts, Grammar.lend, r)), ((λ st ts vs r. (ts, Grammar.rend, r)), tt)))
+    (λ b st ts vs r. (ts, Grammar.aLetter, r)) & (λ st ts vs r. (ts, Grammar.lend, r)) & (λ st ts vs r. (ts, Grammar.rend, r)) & tt
 
--- so does the move that is picked for a token, if one is
+-- the move that is picked for a token, if one is, keeps the meaning
 abbrev KeepsIf : {A : Type 0} → (Ts → A → Ts → Type 0) → Token → ℕ → Option (Move A) → Type 0
 KeepsIf M t p none = Unit {0}
 KeepsIf M t p (some m) = Keeps M t p m
@@ -392,19 +353,19 @@ Ended none = ⊥
 Ended (some x) = x .stack ≡ []
 
 -- what the machine takes to its end has the meaning of what was expected
-eat-reads : (ts : Ts) (st : Stack) (a : Far) (k : Values st → Program) → Ended (eat (state st a k) ts) → (vs : Values st) × Reads st ts vs
+eat-means : (ts : Ts) (st : Stack) (a : Far) (k : Values st → Program) → Ended (eat (state st a k) ts) → (vs : Values st) × MeansAll st ts vs
 unfolding eat
-eat-reads [] [] a k h = (tt, over)
-eat-reads [] (x ∷ st) a k h = absurd (cons≢nil h)
-eat-reads ((u at p) ∷ ts) [] a k h = absurd h
-eat-reads ((u at p) ∷ ts) (x ∷ st) a k h =
-    go (move x (a .totals) (u at p)) (move-means x (a .totals) u p) (λ st b l. eat-reads ts st b l) h
+eat-means [] [] a k h = (tt, over)
+eat-means [] (x ∷ st) a k h = absurd (cons≢nil h)
+eat-means ((u at p) ∷ ts) [] a k h = absurd h
+eat-means ((u at p) ∷ ts) (x ∷ st) a k h =
+    go (move x (a .totals) (u at p)) (move-means x (a .totals) u p) (λ st b l. eat-means ts st b l) h
   where
     go : (o : Option (Move (Value x)))
         → KeepsIf (Means x) u p o
-        → ((st : Stack) (b : Far) (l : Values st → Program) → Ended (eat (state st b l) ts) → (vs : Values st) × Reads st ts vs)
+        → ((st : Stack) (b : Far) (l : Values st → Program) → Ended (eat (state st b l) ts) → (vs : Values st) × MeansAll st ts vs)
         → Ended ((o >>= λ m. some (follow x st a k p m)) >>= λ y. eat y ts)
-        → (vs : Values (x ∷ st)) × Reads (x ∷ st) ((u at p) ∷ ts) vs
+        → (vs : Values (x ∷ st)) × MeansAll (x ∷ st) ((u at p) ∷ ts) vs
     go none m rest h = absurd h
     go (some z) m rest h =
         let (vs, r) = rest (z .push ++ st) _ _ h in
@@ -420,5 +381,5 @@ program-of h (body b) over = Grammar.program h b
 -- what the machine takes to its end is a program
 pub eaten-program : (ts : Ts) → Ended (eat begin ts) → (x : Program) × IsProgram ts x
 eaten-program ts h =
-    let (vs, (_, (_, d, b), o)) = eat-reads ts (begin .stack) (begin .far) (begin .build) h in
+    let (vs, (_, (_, d, b), o)) = eat-means ts (begin .stack) (begin .far) (begin .build) h in
     (vs .0, program-of d b o)

@@ -15,6 +15,10 @@ use Rattle.rule.proofs.Machine.{Symbol, Stack, Value, Values, Totals, s
 abbrev pub Ts : Type 0
 Ts = List Placed
 
+-- the tokens begin with this one, and go on with these
+pub data Is (t : Token) : Ts → Ts → Type 0 where
+  is : {p : ℕ} {ts : Ts} → Is t ((t at p) ∷ ts) ts
+
 -- how far the machine has come: the totals, and the limits broken
 pub record Far : Type 0 where
   pub totals : Totals
@@ -38,6 +42,7 @@ unfoldable pub noted : Bool → ℕ → ℕ → List Fault → List Fault
 noted true n p fs = fs ++ (fault n p ∷ [])
 noted false n p fs = fs
 
+-- how far it comes by a move at a place
 abbrev pub moved : {A : Type 0} → Move A → ℕ → Far → Far
 moved m p s = record { totals = m .totals; seen = noted (m .breaks) (m .fault) p (s .seen) }
 
@@ -46,9 +51,11 @@ abbrev pub _>>=_ : {A B : Type 0} → Option A → (A → Option B) → Option B
 _>>=_ none f = none
 _>>=_ (some a) f = f a
 
+-- the state behind a move
 abbrev pub follow : (x : Symbol) (st : Stack) → Far → (Values (x ∷ st) → Program) → ℕ → Move (Value x) → State
 follow x st s k p m = state (m .push ++ st) (moved m p s) (λ vs. k (m .makes st vs))
 
+-- the state behind one token, if the token is expected
 unfoldable pub stepOn : (st : Stack) → Far → (Values st → Program) → Placed → Option State
 unfolding move noted
 stepOn [] s k (u at p) = none
@@ -58,6 +65,7 @@ unfoldable pub step : State → Placed → Option State
 unfolding stepOn
 step x t = stepOn (x .stack) (x .far) (x .build) t
 
+-- the state behind tokens, if each is expected
 unfoldable pub eat : State → Ts → Option State
 unfolding step
 eat x [] = some x
@@ -116,11 +124,15 @@ eat-append x (t ∷ ts) us = go (step x t) (λ y. eat-append y ts us)
     go none h = refl
     go (some y) h = h y
 
--- the faults that tokens add to those seen stand at tokens
+-- from one state to another these tokens lead past new faults, each at the place of one of them
 pub record Adds (x y : State) (ts : Ts) : Type 0 where
   pub new : List Fault
   pub seen : y .far .seen ≡ x .far .seen ++ new
   pub placed : (f : Fault) → List·Memᴰ f new → (u : Token) × List·Memᴰ (u at f .place) ts
+
+-- the faults seen, behind those known to be seen before
+pub grown : {x y : State} {ts : Ts} {l : List Fault} (a : Adds x y ts) → x .far .seen ≡ l → y .far .seen ≡ l ++ a .new
+grown a h = a .seen ∙ ap (λ (l : List Fault). l ++ a .new) h
 
 adds-none : (x : State) → Adds x x []
 adds-none x = record { new = []; seen = sym (append-nil (x .far .seen)); placed = λ f m. absurd (List·Memᴰ·not-nil m) }
@@ -133,10 +145,15 @@ adds-first : {x y z : State} {u : Token} {p : ℕ} {ts : Ts} (fs : List Fault)
 adds-first {x} {y} {z} {u} {p} {ts} fs h here a =
     record {
       new = fs ++ a .new;
-      seen = a .seen ∙ ap (λ (l : List Fault). l ++ a .new) h ∙ append-assoc (x .far .seen) fs (a .new);
-      placed = λ f m. ⊎-elim (λ n. (u, List·Memᴰ·head (ap (λ (q : ℕ). u at q) (here f n)))) (λ n. (a .placed f n .0, List·Memᴰ·tail (a .placed f n .1))) (List·Memᴰ·append-cases fs m);
+      seen = grown a h ∙ append-assoc (x .far .seen) fs (a .new);
+      placed = λ f m.
+          ⊎-elim
+          (λ n. (u, List·Memᴰ·head (ap (λ (q : ℕ). u at q) (here f n))))
+          (λ n. (a .placed f n .0, List·Memᴰ·tail (a .placed f n .1)))
+          (List·Memᴰ·append-cases fs m);
     }
 
+-- tokens add faults that stand at them
 pub eat-adds : (x y : State) (ts : Ts) → eat x ts ≡ some y → Adds x y ts
 unfolding eat
 eat-adds x y [] e = subst (λ (z : State). Adds x z []) (Option·some-injective x y e) (adds-none x)
@@ -172,4 +189,4 @@ eat-runs x y ((u at p) ∷ ts) us f e h = go (step x (u at p)) (view x u p) (λ 
     go (some z) (passes g r) rest e = r (ts ++ us) f ∙ rest z e
     go (some z) (breaks n g r) rest e =
         let a : Adds z y ts = eat-adds z y ts e in
-        absurd (some-more (x .far .seen) (a .new) (fault n p) (sym (a .seen ∙ ap (λ (l : List Fault). l ++ a .new) g) ∙ h))
+        absurd (some-more (x .far .seen) (a .new) (fault n p) (sym (grown a g) ∙ h))

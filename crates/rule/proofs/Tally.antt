@@ -9,23 +9,7 @@ use lib.ListN.{length}
 use lib.Dec.{leb}
 use Rattle.rule.specs.Tree as Tree
 use Rattle.rule.specs.Tree.{Number, Letter, Sought, Atom, Condition, Plain, Statement, Statements, Arms, Program, done, _then_, letterBytes}
-use Rattle.rule.specs.Limits.{
-  Fault,
-  fault,
-  faultIf,
-  tooDeep,
-  isIn,
-  letterFaults,
-  numberFaults,
-  soughtFaults,
-  atomFaults,
-  conditionFaults,
-  plainFaults,
-  statementFaults,
-  statementsFaults,
-  armsFaults,
-  faults,
-}
+use Rattle.rule.specs.Limits.{Fault, faultIf, tooDeep, isIn, letterFaults, numberFaults, soughtFaults, atomFaults, conditionFaults, plainFaults, statementFaults, statementsFaults, armsFaults, faults}
 use Rattle.rule.proofs.Counting.{
   conditionStates,
   statementStates,

@@ -1,12 +1,12 @@
 -- How a run ends, by the steps that led there: tokens passed with no limit broken, and what comes next.
 use Prim.Native.Nat.{ℕ}
-use mathlib.Core.Path.{_≡_, refl, sym, _∙_, ap, subst}
-use mathlib.Core.Option.{Option, none, some, Option·none-ne-some}
+use mathlib.Core.Path.{_≡_, refl, sym, _∙_, ap}
+use mathlib.Core.Option.{Option, none, some}
 use mathlib.Core.List.{List, [], _∷_, _++_, append-nil, append-assoc, cons≢nil}
 use Rattle.text.specs.Token.{Token}
 use Rattle.text.specs.Tokens.{Placed, _at_, Ending, ends, broken}
 use Rattle.rule.specs.Limits.{Fault, fault}
-use Rattle.rule.proofs.Machine.{Stack, Totals, atEnd, Outcome, taken, refused, run}
+use Rattle.rule.proofs.Machine.{Stack, atEnd, Outcome, taken, refused, run}
 use Rattle.rule.proofs.Steps.{
   Ts,
   State,
