@@ -75,6 +75,31 @@ eat x (t ∷ ts) = step x t >>= λ y. eat y ts
 abbrev pub runs : State → Ts → Ending → Outcome
 runs x = run (x .stack) (x .far .totals)
 
+-- what a run does at a token, by the move there
+module _ (x : Symbol) (t : Totals) (u : Token) (p : ℕ) where
+  -- no move: 4 here
+  pub run-stops : move x t (u at p) ≡ none → (st : Stack) (us : Ts) (e : Ending) → run (x ∷ st) t ((u at p) ∷ us) e ≡ refused 4 p
+  unfolding run
+  run-stops h st us e = rw (h, run)
+
+  -- a move that breaks a limit: its number here
+  pub run-breaks : (m : Move (Value x))
+      → move x t (u at p) ≡ some m
+      → m .breaks ≡ true
+      → (st : Stack) (us : Ts) (e : Ending)
+      → run (x ∷ st) t ((u at p) ∷ us) e ≡ refused (m .fault) p
+  unfolding run
+  run-breaks m h b st us e = rw (h, run) (rw b refl)
+
+  -- a move that breaks none: on with what it expects
+  pub run-passes : (m : Move (Value x))
+      → move x t (u at p) ≡ some m
+      → m .breaks ≡ false
+      → (st : Stack) (us : Ts) (e : Ending)
+      → run (x ∷ st) t ((u at p) ∷ us) e ≡ run (m .push ++ st) (m .totals) us e
+  unfolding run
+  run-passes m h b st us e = rw (h, run) (rw b refl)
+
 -- what a step says of a run: no token of the grammar, or no limit broken, or one
 pub data View (x : State) (u : Token) (p : ℕ) : Option State → Type 0 where
   stops : ((us : Ts) (e : Ending) → runs x ((u at p) ∷ us) e ≡ refused 4 p) → View x u p none
@@ -91,15 +116,14 @@ view-limit : (x : Symbol) (st : Stack) (s : Far) (k : Values (x ∷ st) → Prog
     → m .breaks ≡ b
     → move x (s .totals) (u at p) ≡ some m
     → View (state (x ∷ st) s k) u p (some (follow x st s k p m))
-unfolding run noted
-view-limit x st s k u p m true e h = breaks {y = follow x st s k p m} (m .fault) (rw e refl) (λ us f. rw (h, run) (rw e refl))
-view-limit x st s k u p m false e h = passes {y = follow x st s k p m} (rw e refl) (λ us f. rw (h, run) (rw e refl))
+unfolding noted
+view-limit x st s k u p m true e h = breaks {y = follow x st s k p m} (m .fault) (rw e refl) (run-breaks x (s .totals) u p m h e st)
+view-limit x st s k u p m false e h = passes {y = follow x st s k p m} (rw e refl) (run-passes x (s .totals) u p m h e st)
 
 view-move : (x : Symbol) (st : Stack) (s : Far) (k : Values (x ∷ st) → Program) (u : Token) (p : ℕ) (o : Option (Move (Value x)))
     → move x (s .totals) (u at p) ≡ o
     → View (state (x ∷ st) s k) u p (o >>= λ m. some (follow x st s k p m))
-unfolding run
-view-move x st s k u p none h = stops (λ us f. rw (h, run))
+view-move x st s k u p none h = stops (run-stops x (s .totals) u p h st)
 view-move x st s k u p (some m) h = view-limit x st s k u p m (m .breaks) refl h
 
 view-on : (st : Stack) (s : Far) (k : Values st → Program) (u : Token) (p : ℕ) → View (state st s k) u p (stepOn st s k (u at p))

@@ -63,6 +63,9 @@ noted-is false n p f = sym (append-nil f)
 noted-then : (b : Bool) (n p : ℕ) (f g : List Fault) → noted b n p f ++ g ≡ f ++ (faultIf b n p ++ g)
 noted-then b n p f g = ap (λ (l : List Fault). l ++ g) (noted-is b n p f) ∙ append-assoc f (faultIf b n p) g
 
+nothing-is : (s : Far) → s ≡ plus s 0 0 []
+nothing-is s = same-far (omega arith) (omega arith) (sym (append-nil (s .seen)))
+
 notes-is : (b : Bool) (n p : ℕ) (s : Far) → notes b n p s ≡ plus s 0 0 (faultIf b n p)
 notes-is b n p s = same-far (omega arith) (omega arith) (noted-is b n p (s .seen))
 
@@ -73,8 +76,8 @@ number-is greatest n s = notes-is (outside greatest (n .digits)) 7 (n .place) s
 sought-is : (x : Sought) (s : Far) → soughtFar x s ≡ plus s 0 0 (soughtFaults (s .totals .alphabet) x)
 unfolding soughtFar soughtFaults
 sought-is (Tree.letter l) s = notes-is (not (isIn (l .byte) (s .totals .alphabet))) 6 (l .place) s
-sought-is Tree.lend s = same-far (omega arith) (omega arith) (sym (append-nil (s .seen)))
-sought-is Tree.rend s = same-far (omega arith) (omega arith) (sym (append-nil (s .seen)))
+sought-is Tree.lend s = nothing-is s
+sought-is Tree.rend s = nothing-is s
 
 atom-is : (x : Atom) (s : Far) → atomFar x s ≡ plus s 0 (atomCount (length (s .totals .alphabet)) x) (atomFaults (s .totals .alphabet) x)
 unfolding atomFar atomCount atomFaults
@@ -103,10 +106,10 @@ plain-is : (x : Plain) (s : Far) → plainFar x s ≡ plus s 0 0 (plainFaults x)
 unfolding plainFar plainFaults
 plain-is (Tree.moveBy n) s = number-is 63 n s
 plain-is (Tree.moveBack n) s = number-is 63 n s
-plain-is Tree.gotoLend s = same-far (omega arith) (omega arith) (sym (append-nil (s .seen)))
-plain-is Tree.gotoRend s = same-far (omega arith) (omega arith) (sym (append-nil (s .seen)))
-plain-is Tree.increment s = same-far (omega arith) (omega arith) (sym (append-nil (s .seen)))
-plain-is Tree.decrement s = same-far (omega arith) (omega arith) (sym (append-nil (s .seen)))
+plain-is Tree.gotoLend s = nothing-is s
+plain-is Tree.gotoRend s = nothing-is s
+plain-is Tree.increment s = nothing-is s
+plain-is Tree.decrement s = nothing-is s
 plain-is (Tree.add n) s = number-is 31 n s
 plain-is (Tree.subtract n) s = number-is 31 n s
 
@@ -134,8 +137,8 @@ mutual
       → statementFar d x s
       ≡ plus s (statementStates x) (statementRows (length (s .totals .alphabet)) x) (statementFaults (s .totals .alphabet) d x)
   statement-is (Tree.plain e) d s = plain-is e _ ∙ same-far (omega arith) (omega arith) refl
-  statement-is Tree.accept d s = same-far (omega arith) (omega arith) (sym (append-nil (s .seen)))
-  statement-is Tree.reject d s = same-far (omega arith) (omega arith) (sym (append-nil (s .seen)))
+  statement-is Tree.accept d s = same-far refl refl (sym (append-nil (s .seen)))
+  statement-is Tree.reject d s = same-far refl refl (sym (append-nil (s .seen)))
   statement-is (Tree.if c o b) d s =
       ap (λ (z : Far). statementsFar (suc d) b (notes (leb 16 d) 8 o z)) (condition-is c 0 (counts 3 2 s))
       ∙ block-is b (λ e t. statements-is b e t) d o _
@@ -161,7 +164,7 @@ mutual
       ∙ same-far (omega arith) (omega arith) (simp append-assoc)
 
   statements-is : (b : Statements) → StatementsIs b
-  statements-is done d s = same-far (omega arith) (omega arith) (sym (append-nil (s .seen)))
+  statements-is done d s = nothing-is s
   statements-is (a then b) d s =
       ap (λ (z : Far). statementsFar d b z) (statement-is a d s)
       ∙ statements-is b d _

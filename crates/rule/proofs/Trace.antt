@@ -30,6 +30,7 @@ pub record Passed (ts : Ts) : Type 0 where
   pub eaten : eat begin ts ≡ some state
   pub unseen : state .far .seen ≡ []
 
+-- how a run of tokens with this ending comes to this outcome
 pub data Trace : Ts → Ending → Outcome → Type 0 where
   -- all is taken, and nothing more is expected
   whole : {p : ℕ} {ts : Ts} (x : Passed ts)
@@ -64,6 +65,7 @@ eat-one {ts} x u = eat-append begin ts (u ∷ []) ∙ ap (λ (o : Option State).
 pub passed-runs : {ts : Ts} (x : Passed ts) (us : Ts) (e : Ending) → runs begin (ts ++ us) e ≡ runs (x .state) us e
 passed-runs {ts} x us e = eat-runs begin (x .state) ts us e (x .eaten) (x .unseen)
 
+-- and ends as its state there says
 pub passed-end : {ts : Ts} (x : Passed ts) (e : Ending) → runs begin ts e ≡ atEnd (x .state .stack) (x .state .far .totals) e
 unfolding run
 passed-end {ts} x e = ap (λ (l : Ts). runs begin l e) (sym (append-nil ts)) ∙ passed-runs x [] e

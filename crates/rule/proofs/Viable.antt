@@ -65,6 +65,7 @@ short Machine.readTest = s "==" ∷ w "lend" ∷ []
 short Machine.counterTest = s "==" ∷ zeroToken ∷ []
 short Machine.sought = w "lend" ∷ []
 
+-- and those that a whole stack takes
 abbrev pub shortAll : Stack → List Token
 shortAll [] = []
 shortAll (x ∷ st) = short x ++ shortAll st
@@ -85,18 +86,18 @@ completes (Machine.letters ∷ st) a k p = completes st _ _ _
 completes (Machine.moreLetters ∷ st) a k p = completes st _ _ _
 completes (Machine.truth ∷ st) a k p = completes st _ _ _
 completes (Machine.body ∷ st) a k p = completes st _ _ _
-completes ((Machine.block d) ∷ st) a k p = completes st _ _ _
-completes ((Machine.statements d) ∷ st) a k p = completes st _ _ _
-completes ((Machine.orElse d) ∷ st) a k p = completes st _ _ _
-completes ((Machine.arms d n) ∷ st) a k p = completes st _ _ _
-completes ((Machine.orAlso d n) ∷ st) a k p = completes st _ _ _
-completes ((Machine.loop d) ∷ st) a k p = completes st _ _ _
+completes (Machine.block d ∷ st) a k p = completes st _ _ _
+completes (Machine.statements d ∷ st) a k p = completes st _ _ _
+completes (Machine.orElse d ∷ st) a k p = completes st _ _ _
+completes (Machine.arms d n ∷ st) a k p = completes st _ _ _
+completes (Machine.orAlso d n ∷ st) a k p = completes st _ _ _
+completes (Machine.loop d ∷ st) a k p = completes st _ _ _
 completes (Machine.distance ∷ st) a k p = completes st _ _ _
 completes (Machine.end ∷ st) a k p = completes st _ _ _
 completes (Machine.change ∷ st) a k p = completes st _ _ _
-completes ((Machine.number greatest) ∷ st) a k p = completes st _ _ _
-completes ((Machine.operand n) ∷ st) a k p = completes st _ _ _
-completes ((Machine.tail n) ∷ st) a k p = completes st _ _ _
+completes (Machine.number greatest ∷ st) a k p = completes st _ _ _
+completes (Machine.operand n ∷ st) a k p = completes st _ _ _
+completes (Machine.tail n ∷ st) a k p = completes st _ _ _
 completes (Machine.readTest ∷ st) a k p = completes st _ _ _
 completes (Machine.counterTest ∷ st) a k p = completes st _ _ _
 completes (Machine.sought ∷ st) a k p = completes st _ _ _
