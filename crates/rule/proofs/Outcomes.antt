@@ -161,7 +161,8 @@ trace-fault h (Trace.limit ts us u z x g f) =
     (passed-clean (rising-front ts _ (rising h)) x)
     (record { goesOn = c; others = a .new; first = grown a f })
 
-outcome-is : {text : List ℕ} {ts : Ts} {e : Ending} → TokensOf text ts e → outcome text ≡ runs begin ts e
+-- what comes of a text is what comes of its tokens
+pub outcome-is : {text : List ℕ} {ts : Ts} {e : Ending} → TokensOf text ts e → outcome text ≡ run (program ∷ []) start ts e
 unfolding outcome
 outcome-is h = ap (λ (r : Scanned). runs begin (r .tokens) (r .ending)) (tokens-scanned h)
 
