@@ -15,17 +15,17 @@ use contract.Monad.{fact}
 use types.Kit.{Given, Item, ‵, raw, _⊛_, some, later, Post, atRet, allocs, params′, lands, runs, Seq, Sq, _$_, _∵_, !, qed, move, use0, use1, use2, split, join, pick, suffices, frame, await, done}
 use types.Run.{Opds, enter}
 use sound.WpLaws.{FmC, WpFn-mono}
-use denote.RattleType.{Denots, Valss, flat, owns}
+use denote.RattleType.{Denots, Valss, owns}
 use denote.Laws.{Is, Are, Ises, Spells, valss, Tellss, shows}
 use denote.Signature.{Slot, Signature, typeAt, typesAt}
 use denote.Steps.{peeks, heard}
 use denote.Triple.Statement.{Contract, Triple}
 use denote.Triple.Call.{calls-at}
-use denote.Triple.Entry.{Args, Vals, Res, alive, onEntry}
+use denote.Triple.Entry.{Args, Res, alive, onEntry}
 use denote.Triple.End.{Kepts, Fins}
-use denote.Triple.Spec.{Back, Meets, tripleOf}
+use denote.Triple.Spec.{Meets, tripleOf}
 use denote.Triple.Clauses.{Clauses, Ended, Lasts, atExit, lasts, ensured, closing}
-use denote.Triple.Walked.{Stays, stay-dropped, fitsOf, hasOf, onExit, Ending, walkOf, ends-at, walked, walk-meets, Silent, goes-dropped, AllGo}
+use denote.Triple.Walked.{Stays, stay-dropped, fitsOf, hasOf, onExit, walkOf, ends-at, walked, walk-meets, Silent, goes-dropped, AllGo}
 
 -- nothing is had at exit of any parameter
 module _ {n : ℕ} where

@@ -1,5 +1,6 @@
-// A head: the word together with the cell it stands on. Each function over one takes it apart and leaves the work to the crate's
-// plain functions on a slice and a number, which take a cell past n + 1 as n + 1. The last two have plain parameters.
+// A head: the word together with the cell it stands on. `symbol` and `by` take it apart and leave the work to the crate's plain
+// functions on a slice and a number, which take a cell past n + 1 as n + 1. A row's step calls `seen` and `goes`, whose
+// parameters are plain: a head stands only inside them.
 use crate::Symbol;
 ghost use mathlib.Core.Path.{_≡_};
 ghost use Rattle.machine.specs.Cell.{last, symbolOn, moved};

@@ -1,5 +1,5 @@
 -- `machine::head::seen` meets its contract: a walk of its MIR, by hand. The head that `on` makes is held in a local and passed to `symbol`. All that the proof knows of the two is that each meets its contract.
-use mathlib.Core.Path.{_≡_, refl, ap, ap₂, _∙_}
+use mathlib.Core.Path.{_≡_, refl, ap₂, _∙_}
 use Prim.Native.Nat.{ℕ, _<_, _^_}
 use mathlib.Core.List.{List, [], _∷_}
 use lib.ListN.{length}
