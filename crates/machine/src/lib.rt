@@ -1,5 +1,8 @@
 // A head on a word, as the word and a cell, and one row's step.
 use table::Row;
+
+pub mod head; // head.rt: a head, as a struct that holds the word
+
 ghost use mathlib.Core.Path.{_≡_};
 ghost use mathlib.Core.Bool.{_&&_};
 ghost use mathlib.Core.Option.{some};
@@ -155,10 +158,10 @@ pub fn step(
 ) -> Outcome
     ensures { λ r. ⌜ Steps (tableOf (now (image .entry))) (now (word .entry)) (rowIs row) limit (stepFrom (rowIs row) cell counter) r ⌝ }
 {
-    let seen = looked(word, cell);
+    let seen = head::seen(word, cell);
     if symbol_fits(image, row.symbol, seen) {
         if counter_fits(row.test, counter) {
-            let next = moved(word, row.motion, cell);
+            let next = head::goes(word, row.motion, cell);
             let stops = table::stops(image);
             return changed(stops, row.change, counter, next, limit);
         }

@@ -6,8 +6,8 @@ use Rattle.machine.proofs.Steps.{steps-on, blocked-symbol, blocked-test
 use Rattle.machine.proofs.step.Statement.{statement}
 use Rattle.machine.proofs.step.Tie as tie
 
-looked-requires : tie.Need-looked-requires
-looked-requires c κs = search needs
+seen-requires : tie.Need-seen-requires
+seen-requires c κs = search needs
 
 symbol-fits-requires : tie.Need-symbol-fits-requires
 symbol-fits-requires c κs = search needs
@@ -15,8 +15,8 @@ symbol-fits-requires c κs = search needs
 counter-fits-requires : tie.Need-counter-fits-requires
 counter-fits-requires c κs = search needs
 
-moved-requires : tie.Need-moved-requires
-moved-requires c κs = search needs
+goes-requires : tie.Need-goes-requires
+goes-requires c κs = search needs
 
 stops-requires : tie.Need-stops-requires
 stops-requires c κs = search needs
@@ -28,30 +28,30 @@ returns : tie.Need-returns
 returns c =
     let a = c .before .before .before .before .before in
     steps-on _ _ _ _ _ _
-    (sym (ap (symbolFits _ _) (a .before .before .looked .ensures)) ∙ sym (a .before .symbol-fits .ensures) ∙ a .if1 .taken)
+    (sym (ap (symbolFits _ _) (a .before .before .seen .ensures)) ∙ sym (a .before .symbol-fits .ensures) ∙ a .if1 .taken)
     (sym (c .before .before .before .before .counter-fits .ensures) ∙ c .before .before .before .if2 .taken)
-    _ _ _ (c .before .before .moved .ensures) (c .before .stops .ensures) (c .changed .ensures)
+    _ _ _ (c .before .before .goes .ensures) (c .before .stops .ensures) (c .changed .ensures)
 
 returns-2 : tie.Need-returns-2
 returns-2 c =
     let a = c .before .before in
     blocked-test _ _ _ _ _ _
-    (sym (ap (symbolFits _ _) (a .before .before .looked .ensures)) ∙ sym (a .before .symbol-fits .ensures) ∙ a .if1 .taken)
+    (sym (ap (symbolFits _ _) (a .before .before .seen .ensures)) ∙ sym (a .before .symbol-fits .ensures) ∙ a .if1 .taken)
     (sym (c .before .counter-fits .ensures) ∙ c .if2 .left)
 
 returns-3 : tie.Need-returns-3
 returns-3 c =
     blocked-symbol _ _ _ _ _ _
-    (sym (ap (symbolFits _ _) (c .before .before .looked .ensures)) ∙ sym (c .before .symbol-fits .ensures) ∙ c .if1 .left)
+    (sym (ap (symbolFits _ _) (c .before .before .seen .ensures)) ∙ sym (c .before .symbol-fits .ensures) ∙ c .if1 .left)
 
 pub step-spec : {M : Type 1} → statement M
 step-spec =
     tie.close
     (tie.spec
-    looked-requires
+    seen-requires
     symbol-fits-requires
     counter-fits-requires
-    moved-requires
+    goes-requires
     stops-requires
     changed-requires
     returns
