@@ -1,5 +1,4 @@
 -- Laws of the definitions of a rule.
-pub mod Parse
 -- a machine with a stack, and what comes of a text by it
 pub mod Class
 pub mod Machine

@@ -4,6 +4,8 @@ use Rattle.table.specs.Image.{encode, field, twoBytes, rowBytes, rowsBytes, fla
 use Rattle.machine.specs.Cell.{symbolOn, moved}
 use Rattle.machine.specs.Step.{symbolFits, counterFits, changed, rowFits}
 use Rattle.text.proofs.Scan.{scan}
+use Rattle.rule.proofs.Machine.{outcome}
+use Rattle.rule.proofs.Steps.{eat}
 use Rattle.rule.specs.Tree.{letterBytes}
 use Rattle.rule.specs.Limits.{
   faults,
@@ -46,5 +48,5 @@ use Rattle.samples.specs.Starred.{starred}
 use Rattle.samples.proofs.Prove.{each}
 
 pub starred-hold : EachHolds starred
-unfolding bit withBit encode field twoBytes rowBytes rowsBytes flag symbolOn moved symbolFits counterFits changed rowFits scan letterBytes faults letterFaults isIn valueFrom inForm numberFaults soughtFaults atomFaults conditionFaults plainFaults statementsFaults construct programPart statementsPart withBits andThen armPart loopPart ifPart test walk oneAfterOther oneOrOther atomRows symbolRows without countUp symbolCode indexIn changeCode moveCode line digits onlyRow
+unfolding outcome eat bit withBit encode field twoBytes rowBytes rowsBytes flag symbolOn moved symbolFits counterFits changed rowFits scan letterBytes faults letterFaults isIn valueFrom inForm numberFaults soughtFaults atomFaults conditionFaults plainFaults statementsFaults construct programPart statementsPart withBits andThen armPart loopPart ifPart test walk oneAfterOther oneOrOther atomRows symbolRows without countUp symbolCode indexIn changeCode moveCode line digits onlyRow
 starred-hold = each starred tt

@@ -16,7 +16,10 @@ fn reason(number: u64) {
         return;
     }
     if number == 23 {
-        io::write_all(STDOUT_FILENO, b" the word's letter at this place is not in the alphabet\n");
+        io::write_all(
+            STDOUT_FILENO,
+            b" the word's letter at this place is not in the alphabet\n",
+        );
         return;
     }
     if number == 24 {
@@ -96,7 +99,10 @@ fn together(a: u64, b: u64, c: u64) -> u64 {
 }
 
 fn usage() {
-    io::write_all(STDERR_FILENO, b"verdict: say the image file, the word (which may be empty) and the limit, 0 to 31\n");
+    io::write_all(
+        STDERR_FILENO,
+        b"verdict: say the image file, the word (which may be empty) and the limit, 0 to 31\n",
+    );
 }
 
 // Judges with an image that is in memory.
