@@ -2,6 +2,7 @@
 pub mod Bits
 pub mod Digits
 pub mod Change
+pub mod Parts
 pub mod Counting
 pub mod Size
 pub mod Tests
