@@ -1,5 +1,5 @@
-/* Times the product's judge and a plain one side by side on tables that are easy for one way of searching and hard for
- * another. Both must give the same answer and the same marks. With a number of seconds as its word it goes on to search
+/* Times the product's judge and two plain ones side by side on tables that are easy for one way of searching and hard for
+ * another. All must give the same answer and the same marks. With a number of seconds as its word it goes on to search
  * for bad ratios among random tables for that long. Run by hand; no test. */
 #define _POSIX_C_SOURCE 200809L
 #include <stdio.h>
@@ -65,42 +65,47 @@ static void next_place(unsigned from, unsigned to) {
     row(from, REND, EITHER, TO_LEND, CHANGE(1), to);
 }
 
-static uint8_t ours_marks[VALAIYOTH_MARKS], plain_marks[VALAIYOTH_MARKS];
+static uint8_t ours_marks[VALAIYOTH_MARKS], plain_marks[VALAIYOTH_MARKS], lean_marks[VALAIYOTH_MARKS];
 
 typedef uint64_t judge_function(const uint8_t *, size_t, const uint8_t *, size_t, uint64_t, uint8_t *, size_t);
 
-static double now(void) {
+static double microseconds(clockid_t clock) {
     struct timespec t;
-    clock_gettime(CLOCK_MONOTONIC, &t);
+    clock_gettime(clock, &t);
     return (double)t.tv_sec * 1e6 + (double)t.tv_nsec / 1e3;
 }
 
 static double once(judge_function *judge, uint8_t *marks, const uint8_t *word, size_t word_len, uint64_t limit, unsigned times) {
-    double begin = now();
+    /* the time that this program has had, whatever else the machine does */
+    double begin = microseconds(CLOCK_PROCESS_CPUTIME_ID);
     for (unsigned i = 0; i < times; i++) judge(image.bytes, image.length, word, word_len, limit, marks, VALAIYOTH_MARKS);
-    return (now() - begin) / times;
+    return (microseconds(CLOCK_PROCESS_CPUTIME_ID) - begin) / times;
 }
 
 struct result {
     uint64_t answer;
-    double ours, plain;
+    double ours, plain, lean;
 };
 
 /* The best of some repetitions, each at least about half a millisecond long, turn and turn about. */
 static struct result measure(const uint8_t *word, size_t word_len, uint64_t limit, unsigned repetitions) {
-    struct result r = {0, 1e18, 1e18};
+    struct result r = {0, 1e18, 1e18, 1e18};
     uint64_t answer = plain_judge(image.bytes, image.length, word, word_len, limit, plain_marks, VALAIYOTH_MARKS);
+    uint64_t lean = lean_judge(image.bytes, image.length, word, word_len, limit, lean_marks, VALAIYOTH_MARKS);
     r.answer = valaiyoth_judge(image.bytes, image.length, word, word_len, limit, ours_marks, VALAIYOTH_MARKS);
-    if (r.answer != answer || memcmp(ours_marks, plain_marks, VALAIYOTH_MARKS) != 0) {
-        printf("the two judges differ: ours %llu, plain %llu\n", (unsigned long long)r.answer, (unsigned long long)answer);
+    if (r.answer != answer || lean != answer || memcmp(ours_marks, plain_marks, VALAIYOTH_MARKS) != 0 ||
+        memcmp(lean_marks, plain_marks, VALAIYOTH_MARKS) != 0) {
+        printf("the judges differ: ours %llu, plain %llu\n", (unsigned long long)r.answer, (unsigned long long)answer);
         exit(1);
     }
     double first = once(plain_judge, plain_marks, word, word_len, limit, 1);
     unsigned times = first > 500 ? 1 : (unsigned)(500 / (first + 0.1)) + 1;
     for (unsigned i = 0; i < repetitions; i++) {
         double plain = once(plain_judge, plain_marks, word, word_len, limit, times);
+        double lean_time = once(lean_judge, lean_marks, word, word_len, limit, times);
         double ours = once(valaiyoth_judge, ours_marks, word, word_len, limit, times);
         if (plain < r.plain) r.plain = plain;
+        if (lean_time < r.lean) r.lean = lean_time;
         if (ours < r.ours) r.ours = ours;
     }
     return r;
@@ -111,8 +116,9 @@ static double worst;
 static void print(const char *name, struct result r) {
     double ratio = r.ours / r.plain;
     if (ratio > worst) worst = ratio;
-    printf("%-64s %5u %7llu %11.1f %11.1f %7.2f%s\n", name, image.rows, (unsigned long long)VALAIYOTH_VALUE(r.answer), r.ours,
-           r.plain, ratio, ratio > 10 ? "  OVER 10" : "");
+    printf("%-64s %5u %7llu %10.1f %10.1f %7.2f %10.1f %7.2f%s\n", name, image.rows,
+           (unsigned long long)VALAIYOTH_VALUE(r.answer), r.ours, r.plain, ratio, r.lean, r.ours / r.lean,
+           ratio > 10 ? "  OVER 10" : "");
     fflush(stdout);
 }
 
@@ -257,6 +263,25 @@ static void many_rows(void) {
     row(0, ANY, EITHER, BY(1), SAME, 0);
     run("1,024 rows in one state, the last one fits", 62, 31);
 
+    /* rows that all but fit, in every situation of one state */
+    static const struct {
+        const char *name;
+        unsigned symbol, test;
+        int change;
+    } misses[] = {
+        {"1,021 rows fail by the symbol", 1, EITHER, SAME},
+        {"1,021 rows fail by the counter's test", ANY, ZERO, SAME},
+        {"1,021 rows fail by lowering below zero", ANY, EITHER, CHANGE(-31)},
+        {"1,021 rows fail by the limit", ANY, EITHER, CHANGE(31)},
+        {"1,021 rows fit and lead to what is reached", ANY, EITHER, SAME},
+    };
+    for (size_t m = 0; m < sizeof misses / sizeof misses[0]; m++) {
+        start(1, 0);
+        for (int i = 0; i < 1021; i++) row(0, misses[m].symbol, misses[m].test, STAY, misses[m].change, 0);
+        next_place(0, 0);
+        run(misses[m].name, 62, 31);
+    }
+
     start(1, 0);
     for (int i = 0; i < 512; i++) {
         row(0, ANY, EITHER, BY(i % 127 - 63), SAME, 0);
@@ -357,14 +382,14 @@ static struct result measure_table(const struct some_table *t, unsigned repetiti
 
 static void random_tables(int seconds) {
     static struct some_table best, other;
-    double end = now() + seconds * 1e6, shown = 0;
+    double end = microseconds(CLOCK_MONOTONIC) + seconds * 1e6, shown = 0;
     unsigned long tried = 0;
-    while (now() < end) {
+    while (microseconds(CLOCK_MONOTONIC) < end) {
         random_table(&best);
         struct result r = measure_table(&best, 2);
         double ratio = r.ours / r.plain;
         tried++;
-        for (unsigned without = 0; without < 40 && now() < end; without++) {
+        for (unsigned without = 0; without < 40 && microseconds(CLOCK_MONOTONIC) < end; without++) {
             other = best;
             change_table(&other);
             r = measure_table(&other, 2);
@@ -389,7 +414,8 @@ static void random_tables(int seconds) {
 }
 
 int main(int words, char **word) {
-    printf("%-64s %5s %7s %11s %11s %7s\n", "case", "rows", "reached", "ours (us)", "plain (us)", "ratio");
+    printf("%-64s %5s %7s %10s %10s %7s %10s %7s\n", "case", "rows", "reached", "ours (us)", "plain (us)", "ratio", "lean (us)",
+           "ratio");
 
     uint8_t brackets[62];
     memset(brackets, 'u', 31);

@@ -1,6 +1,6 @@
 /* A plain judge as document 01 describes it, for the benchmark only: it keeps a queue of situations and reads through all rows
- * for each. It has what the docks do not: a megabyte of static memory for the queue. The bits of the mark buffer say what was
- * seen; they are cleared on each call. */
+ * for each. It has what the docks do not: more than a megabyte of static memory. What was seen stands in an array with a byte for
+ * each situation, cleared on each call; the lean one does without and asks the mark bits. */
 #include "plain.h"
 
 #include <string.h>
@@ -23,6 +23,7 @@ struct table {
 
 static struct table table;
 static uint32_t queue[SITUATIONS];
+static uint8_t seen[SITUATIONS];
 
 static int two(const uint8_t *bytes) { return bytes[0] << 8 | bytes[1]; }
 
@@ -86,8 +87,8 @@ static int decode(const uint8_t *image, size_t image_len) {
 
 uint64_t plain_check(const uint8_t *image, size_t image_len) { return decode(image, image_len) ? 1 : REFUSED(21); }
 
-uint64_t plain_judge(const uint8_t *image, size_t image_len, const uint8_t *word, size_t word_len, uint64_t limit,
-                     uint8_t *marks, size_t marks_len) {
+static inline uint64_t judge(int lean, const uint8_t *image, size_t image_len, const uint8_t *word, size_t word_len,
+                             uint64_t limit, uint8_t *marks, size_t marks_len) {
     int symbols[64];
     if (!decode(image, image_len)) return REFUSED(21);
     if (word_len > 62) return REFUSED(22);
@@ -103,10 +104,12 @@ uint64_t plain_judge(const uint8_t *image, size_t image_len, const uint8_t *word
     symbols[last] = 17;
 
     memset(marks, 0, MARKS);
+    if (!lean) memset(seen, 0, sizeof seen);
     size_t head = 0, tail = 0;
     int accepts = 0, passes = 0;
     queue[tail++] = 0;
     marks[0] = 1;
+    if (!lean) seen[0] = 1;
     while (head < tail) {
         uint32_t index = queue[head++];
         int state = (int)(index >> 11), cell = (int)(index >> 5 & 63), counter = (int)(index & 31);
@@ -129,10 +132,21 @@ uint64_t plain_judge(const uint8_t *image, size_t image_len, const uint8_t *word
             if (to_cell < 0) to_cell = 0;
             if (to_cell > last) to_cell = last;
             uint32_t to = ((uint32_t)r->to * 64 + (uint32_t)to_cell) * 32 + (uint32_t)to_counter;
-            if (marks[to / 8] >> (to % 8) & 1) continue;
+            if (lean ? marks[to / 8] >> (to % 8) & 1 : seen[to]) continue;
+            if (!lean) seen[to] = 1;
             marks[to / 8] |= (uint8_t)(1u << (to % 8));
             queue[tail++] = to;
         }
     }
     return (uint64_t)(accepts ? 1 : passes ? 3 : 2) * 1000000 + tail;
+}
+
+uint64_t plain_judge(const uint8_t *image, size_t image_len, const uint8_t *word, size_t word_len, uint64_t limit,
+                     uint8_t *marks, size_t marks_len) {
+    return judge(0, image, image_len, word, word_len, limit, marks, marks_len);
+}
+
+uint64_t lean_judge(const uint8_t *image, size_t image_len, const uint8_t *word, size_t word_len, uint64_t limit,
+                    uint8_t *marks, size_t marks_len) {
+    return judge(1, image, image_len, word, word_len, limit, marks, marks_len);
 }

@@ -25,12 +25,15 @@ program() {
   rust "$source" "$output" --extern "independent=$lib" "$@"
 }
 
-# archive NAME: proves a crate, makes its archive and prints the archive's path
+# archive NAME: proves a crate, makes its archive and prints the archive's path. An archive that is newer than every crate's
+# files and folders is taken as it is: the tests of one run share it.
 archive() {
-  local log=$out/staticlib-$1.log
-  if ! rt staticlib "$1" >"$log" 2>&1; then
-    tail -n 20 "$log" >&2
-    return 1
+  local log=$out/staticlib-$1.log lib=$root/target/staticlib/lib$1.a
+  if [ ! -f "$lib" ] || [ -n "$(find crates crates.txt -newer "$lib" -print -quit)" ]; then
+    if ! rt staticlib "$1" >"$log" 2>&1; then
+      tail -n 20 "$log" >&2
+      return 1
+    fi
   fi
-  echo "$root/target/staticlib/lib$1.a"
+  echo "$lib"
 }
