@@ -6,6 +6,9 @@ use mathlib.Core.Bool.{cond}
 use mathlib.Core.List.{List}
 use lib.ListN.{length, getD}
 use borrow.Author.Tests.{lt-ltb, le-ltb, eq-eqb, ne-eqb}
+use Rattle.machine.specs.declared.Symbol as Code
+use Rattle.machine.specs.declared.Symbol.the-variants as Variants
+use Rattle.machine.specs.Code.{symbolIs}
 use Rattle.machine.specs.Cell.{Symbol, leftMark, letter, rightMark, last, symbolOn, moved}
 
 one-less : (n : ℕ) → suc n - 1 ≡ n
@@ -50,3 +53,16 @@ pub moves-back
     : (w : List ℕ) (code cell from by : ℕ) → ¬ (code ≡ 0) → ¬ (code ≡ 128) → from ≡ min cell (last w) → by ≡ code → from + by ≤ 64
     → moved w code cell ≡ 0
 moves-back w code cell from by left right start way low = omega (arith, moves-by w code cell from by left right start way)
+
+-- a symbol of the definitions is that of one answer: a promise of `symbolIs r` leaves no second r
+pub symbol-once : (a b : Code.Symbol) → symbolIs a ≡ symbolIs b → a ≡ b
+unfolding symbolIs
+symbol-once Variants.LeftMark Variants.LeftMark e = refl
+symbol-once Variants.LeftMark (Variants.Letter b) e = cc
+symbol-once Variants.LeftMark Variants.RightMark e = cc
+symbol-once (Variants.Letter a) Variants.LeftMark e = cc
+symbol-once (Variants.Letter a) (Variants.Letter b) e = cc
+symbol-once (Variants.Letter a) Variants.RightMark e = cc
+symbol-once Variants.RightMark Variants.LeftMark e = cc
+symbol-once Variants.RightMark (Variants.Letter b) e = cc
+symbol-once Variants.RightMark Variants.RightMark e = refl
