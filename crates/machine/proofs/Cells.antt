@@ -65,6 +65,10 @@ code-of Variants.LeftMark = refl
 code-of (Variants.Letter b) = refl
 code-of Variants.RightMark = refl
 
--- so looking at a cell has one answer
+-- so a promise of `symbolIs r` leaves no second r
+pub symbol-once : (a b : Code.Symbol) → symbolIs a ≡ symbolIs b → a ≡ b
+symbol-once a b e = sym (code-of a) ∙ ap codeOf e ∙ code-of b
+
+-- and looking at a cell has one answer
 pub looked-once : {a b : Code.Symbol} (w : List ℕ) (cell : ℕ) → symbolIs a ≡ symbolOn w cell → symbolIs b ≡ symbolOn w cell → a ≡ b
-looked-once {a} {b} w cell x y = sym (code-of a) ∙ ap codeOf (x ∙ sym y) ∙ code-of b
+looked-once {a} {b} w cell x y = symbol-once a b (x ∙ sym y)

@@ -41,6 +41,10 @@ WordAt κ = ShrSlice (named 0) κ u8
 abbrev pub wordOf : Head → Val
 wordOf d = sliceVal (d .word .ptr) (length (d .word .now))
 
+-- a promise of a head's word and cell leaves no second head
+pub head-once : {a b : Head} → a .word ≡ b .word → a .cell ≡ b .cell → a ≡ b
+head-once same-word same-cell = λ i. record { word = same-word i; cell = same-cell i }
+
 -- a head's machine value is this one
 pub head-tells : (κs : Lfts 1) → Tells (HeadAt κs) (Is (HeadAt κs)) (λ d. T′.lowered d ∷ [])
 head-tells κs = LL.tells (T.the-type (namedLft 1 0 tt κs)) (T′.the-laws (namedLft 1 0 tt κs))
