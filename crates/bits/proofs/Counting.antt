@@ -1,15 +1,15 @@
 -- A count of ones is the size of the set of bits that are 1.
-use Prim.Native.Nat.{ℕ, zero, suc, _+_, _*_, _/_, _%_, _^_, _≤_, _<_, suc-le-suc}
-use native.Mathlib.Nat.{eq-or-lt-of-le, le-of-suc-le-suc, zero-lt-suc, pow-suc, le-refl, add-zero, add-suc}
+use Prim.Native.Nat.{ℕ, zero, suc, _+_, _*_, _/_, _%_, _^_, _≤_, _<_}
+use native.Mathlib.Nat.{eq-or-lt-of-le, le-of-suc-le-suc, pow-suc, le-refl, add-zero, add-suc}
 use native.Mathlib.Omega.{arith}
 use mathlib.Core.Path.{_≡_, refl, sym, ap, ap₂, subst, _∙_}
 use mathlib.Core.Logic.{_⊎_, inl, inr, ⊎-elim, ∥∥₁-elim}
 use mathlib.Core.HLevel.{⊥-prop}
-use mathlib.Core.List.{List, [], _∷_, List·Memᴰ, List·Memᴰ·head, List·Memᴰ·tail, List·Mem, List·Nodup, Pairwise·nil, Pairwise·cons}
+use mathlib.Core.List.{List, [], _∷_, List·Memᴰ, List·Memᴰ·head, List·Memᴰ·tail, List·Nodup, Pairwise·nil, Pairwise·cons}
 use lib.ListN.{length, getD}
 use lib.Arith.{lt-one}
 use lib.Count.{ones, ones-step}
-use Rattle.bits.specs.Bit.{bit, Bytes}
+use Rattle.bits.specs.Bit.{bit}
 use Rattle.bits.specs.Size.{Size}
 use Rattle.bits.specs.Ones.{Ones}
 use Rattle.bits.proofs.Bits.{bit-zero-or-one, bit-of-byte, half-bits}

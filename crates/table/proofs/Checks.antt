@@ -1,8 +1,10 @@
--- A check's number is settled by the image, and is never 0.
+-- A check's number is settled by the image, is never 0, and tells whether the image is well formed.
 use Prim.Native.Nat.{ℕ, _≤_}
 use native.Mathlib.Omega.{arith}
 use mathlib.Core.Path.{_≡_, refl, sym, ap, _∙_}
 use mathlib.Core.List.{List}
+use Rattle.table.specs.WellFormed.{WellFormed}
+use Rattle.table.specs.Refusal.{refusal}
 use Rattle.table.specs.Check.{Checked, wellFormed, malformed, checkedNumber, CheckedRight, Checks}
 
 -- an image has one right answer
@@ -25,3 +27,23 @@ some-number malformed = omega arith
 -- a check never gives 0
 pub checks-never-zero : {image : List ℕ} {r : ℕ} → Checks image r → 1 ≤ r
 checks-never-zero a = rw (a .number) (some-number (a .answer))
+
+-- what an answer with the number 1 says, and any other
+one-says : (image : List ℕ) (a : Checked) → CheckedRight image a → checkedNumber a ≡ 1 → WellFormed image
+unfolding checkedNumber
+one-says image wellFormed right e = right
+one-says image malformed right e = absurd (omega arith)
+
+other-says : (image : List ℕ) (a : Checked) → CheckedRight image a → ¬ (checkedNumber a ≡ 1) → (¬ WellFormed image) × (checkedNumber a ≡ refusal 21 0)
+unfolding checkedNumber
+other-says image wellFormed right other = absurd (other refl)
+other-says image malformed right other = (right, refl)
+
+-- a check that gives 1 says that the image is well formed
+pub checks-one : {image : List ℕ} {r : ℕ} → Checks image r → r ≡ 1 → WellFormed image
+checks-one {image} a e = one-says image (a .answer) (a .right) (sym (a .number) ∙ e)
+
+-- a check that does not give 1 says that it is not, and gives refusal 21
+pub checks-other : {image : List ℕ} {r : ℕ} → Checks image r → ¬ (r ≡ 1) → (¬ WellFormed image) × (r ≡ refusal 21 0)
+checks-other {image} a other =
+    let says = other-says image (a .answer) (a .right) (λ e. other (a .number ∙ e)) in (says .0, a .number ∙ says .1)

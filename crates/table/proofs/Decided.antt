@@ -1,22 +1,24 @@
 -- Bytes are a well-formed image exactly if each part of them is right.
-use Prim.Native.Nat.{ℕ, _+_, _*_, _≤_, _<_}
+use Prim.Native.Nat.{ℕ, _+_, _≤_, _<_}
 use native.Mathlib.Decide.{decLt}
 use native.Mathlib.Omega.{arith}
 use mathlib.Core.Path.{_≡_, sym, subst}
-use mathlib.Core.List.{List, List·Memᴰ, List·Nodup}
+use mathlib.Core.Bool.{Bool}
+use mathlib.Core.List.{List, List·Memᴰ}
 use lib.ListN.{length, drop, length-drop}
 use lib.Seq.{length-take-le}
 use lib.Dec.{T}
 use Rattle.bits.specs.Bit.{bit, Bytes}
 use Rattle.bits.specs.Byte.{isLetter}
 use Rattle.table.specs.Table.{Row, Table, Accepting}
-use Rattle.table.specs.WellFormed.{SymbolCode, RowInRange, InRange, IsImage, WellFormed}
-use Rattle.table.specs.Fields.{byteAt, lettersOf, letterOf, rowOf, rowCount, tableOf, HeadRight, MiddleRight, TailRight, LetterRight}
+use Rattle.table.specs.WellFormed.{SymbolCode, RowInRange, InRange, IsImage}
+use Rattle.table.specs.Fields.{lettersOf, letterOf, rowOf, rowCount, tableOf, Tells, HeadRight, MiddleRight, TailRight, LetterRight}
 use Rattle.table.specs.RowCode.{rowIs}
 use Rattle.table.specs.declared.Row as Code
+use Rattle.table.proofs.Telling.{tells-as}
 use Rattle.table.proofs.Reading.{alphabet-length, part-bytes, accept-past}
 use Rattle.table.proofs.Framing.{framed-image}
-use Rattle.table.proofs.Encoded.{image-table, image-head, image-middle, image-tail}
+use Rattle.table.proofs.Encoded.{image-table, image-tail}
 use Rattle.table.proofs.RowList.{rows-length, rows-in, rows-number}
 use Rattle.table.proofs.Places.{place-of, member-at, nodup-of, of-nodup}
 
@@ -38,7 +40,7 @@ abbrev pub CodesRight : ℕ → Code.Row → Type 0
 CodesRight k r = SymbolCode k (r .symbol) × (r .test ≤ 2) × (r .motion ≤ 128) × (r .change ≤ 62)
 
 module _ (image : List ℕ) (long : lettersOf image + 7 ≤ length image) {row : Code.Row} {r : Row} (is : rowIs row ≡ r) where
-  pub row-parts
+  row-parts
       : StatesRight (tableOf image) (row .from) (row .to) → CodesRight (lettersOf image) row → RowInRange (tableOf image) r
   row-parts states codes =
       subst
@@ -60,13 +62,20 @@ module _ (image : List ℕ) (long : lettersOf image + 7 ≤ length image) {row :
   pub row-states : RowInRange (tableOf image) r → StatesRight (tableOf image) (row .from) (row .to)
   row-states right = (back right .from, back right .notAccepting, back right .to)
 
-  pub row-codes : RowInRange (tableOf image) r → CodesRight (lettersOf image) row
+  row-codes : RowInRange (tableOf image) r → CodesRight (lettersOf image) row
   row-codes right = (
     rw (alphabet-length image long) at (back right .symbol),
     back right .test,
     back right .move,
     back right .change,
   )
+
+  -- where the states are right, the codes tell
+  pub codes-tell
+      : {told : Bool} {k : ℕ} → k ≡ lettersOf image → StatesRight (tableOf image) (row .from) (row .to) → Tells told (CodesRight k row)
+      → Tells told (RowInRange (tableOf image) r)
+  codes-tell {told} letters states codes =
+      tells-as (subst (λ (n : ℕ). Tells told (CodesRight n row)) letters codes) (row-parts states) row-codes
 
 -- a state past the sixteen bytes does not accept
 pub others-all
@@ -93,7 +102,6 @@ module _ (image : List ℕ) where
   unfolding tableOf
   accepting-bytes bytes = part-bytes image 16 (lettersOf image + 19) bytes
 
-module _ (image : List ℕ) where
   -- if all parts are right, the bytes are the image of what they say
   pub parts-image
       : Bytes image → HeadRight image → MiddleRight image → TailRight image → LettersRight image → OtherBits image → RowsRight image
@@ -120,10 +128,10 @@ module _ (image : List ℕ) where
         fewLetters = rw many (head .fewLetters);
         letters = letter;
         different = nodup-of (tableOf image .alphabet) (λ c low d before. letters c (omega (arith, many)) .fresh d before);
-        someState = states-low image middle;
-        fewStates = states-high image middle;
-        sixteen = sixteen image (omega (arith, tail .end));
-        bytes = accepting-bytes image bytes;
+        someState = states-low middle;
+        fewStates = states-high middle;
+        sixteen = sixteen (omega (arith, tail .end));
+        bytes = accepting-bytes bytes;
         noOtherBit = others;
         fewRows = rw (rows-length image) (tail .fewRows);
         rows = row;

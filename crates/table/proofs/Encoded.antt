@@ -1,16 +1,16 @@
 -- The fields of a table's image say what the table is, and stand where they should.
-use Prim.Native.Nat.{ℕ, _+_, _*_, _/_, _%_, _≤_, _<_}
-use native.Mathlib.Nat.{add-zero, add-assoc}
+use Prim.Native.Nat.{ℕ, _+_, _*_, _≤_}
+use native.Mathlib.Nat.{add-assoc}
 use native.Mathlib.Omega.{arith}
-use mathlib.Core.Path.{_≡_, refl, sym, ap, subst, _∙_}
+use mathlib.Core.Path.{_≡_, refl, sym, ap, _∙_}
 use mathlib.Core.Bool.{Bool, true, false}
 use mathlib.Core.List.{List, [], _∷_, _++_, append-nil}
-use lib.ListN.{length, getD, take, drop}
+use lib.ListN.{length, take, drop}
 use lib.Dec.{eqb}
-use Rattle.table.specs.Table.{Row, Table}
+use Rattle.table.specs.Table.{Table}
 use Rattle.table.specs.Image.{twoBytes, field, rowsBytes, flag, edition, encode}
-use Rattle.table.specs.WellFormed.{IsImage, InRange, WellFormed}
-use Rattle.table.specs.Fields.{byteAt, twoAt, lettersOf, rowCount, rowsFrom, tableOf, FieldAt, HeadRight, MiddleRight, TailRight}
+use Rattle.table.specs.WellFormed.{IsImage}
+use Rattle.table.specs.Fields.{byteAt, twoAt, lettersOf, rowCount, rowsFrom, tableOf, HeadRight, MiddleRight, TailRight}
 use Rattle.table.proofs.Image.{length-rows, length-encode}
 use Rattle.table.proofs.Standing.{Stands, stands-field, stands-byte, stands-value, stands-after, stands-next}
 use Rattle.table.proofs.RowList.{rows-of-bytes}

@@ -1,21 +1,18 @@
 -- Bytes whose fields stand where they should are the image of what the fields say.
-use Prim.Native.Nat.{ℕ, zero, suc, _+_, _*_, _/_, _%_, _≤_, _<_}
-use native.Mathlib.Nat.{add-zero, add-assoc}
+use Prim.Native.Nat.{ℕ, zero, suc, _+_, _*_, _/_, _%_, _≤_}
+use native.Mathlib.Nat.{add-zero}
 use native.Mathlib.Omega.{arith}
-use mathlib.Core.Path.{_≡_, refl, sym, ap, ap₂, subst, _∙_}
-use mathlib.Core.Bool.{Bool, true, false}
-use mathlib.Core.List.{List, [], _∷_, _++_, append-nil}
-use lib.ListN.{length, getD, take, drop, drop-of-length-le}
+use mathlib.Core.Path.{_≡_, refl, sym, ap, _∙_}
+use mathlib.Core.List.{List, [], _∷_, append-nil}
+use lib.ListN.{take, drop, drop-of-length-le}
 use lib.Seq.{take-at}
 use lib.Dec.{eqb}
 use Rattle.bits.specs.Bit.{Bytes}
-use Rattle.table.specs.Table.{Row, Table}
-use Rattle.table.specs.Image.{twoBytes, field, rowsBytes, flag, edition, encode}
-use Rattle.table.specs.WellFormed.{IsImage, InRange, WellFormed}
-use Rattle.table.specs.Fields.{byteAt, twoAt, lettersOf, rowCount, rowsFrom, tableOf, FieldAt, HeadRight, MiddleRight, TailRight}
-use Rattle.table.proofs.Image.{length-rows, length-encode}
-use Rattle.table.proofs.Standing.{Stands, stands-field, stands-byte, stands-value, stands-rest, stands-of, bytesFrom, take-bytes}
-use Rattle.table.proofs.RowList.{rows-of-bytes, bytes-of-rows, length-rowsFrom}
+use Rattle.table.specs.Image.{twoBytes, rowsBytes, flag, edition, encode}
+use Rattle.table.specs.Fields.{byteAt, twoAt, lettersOf, rowCount, rowsFrom, tableOf, HeadRight, MiddleRight, TailRight}
+use Rattle.table.proofs.Image.{length-rows}
+use Rattle.table.proofs.Standing.{stands-of, take-bytes}
+use Rattle.table.proofs.RowList.{bytes-of-rows, length-rowsFrom}
 
 -- a flag is told by its byte
 flag-of : (b : ℕ) → b ≤ 1 → flag (eqb b 1) ≡ b

@@ -1,32 +1,19 @@
--- What the readers of an image read: a byte of a part of it, a byte past its end, and a row.
+-- What the readers of an image read: the fields, a byte past the end, and a row.
 use Prim.Native.Nat.{ℕ, _+_, _*_, _/_, _%_, _^_, _≤_, _<_}
 use native.Mathlib.Nat.{add-comm}
 use native.Mathlib.Decide.{decLt}
 use native.Mathlib.Omega.{arith}
-use mathlib.Core.Path.{_≡_, refl, sym, ap, ap₂, _∙_}
+use mathlib.Core.Path.{_≡_, sym, ap, _∙_}
 use mathlib.Core.List.{List}
 use lib.ListN.{length, getD, take, drop, length-take, length-drop, List·getD-eq-default}
 use lib.Dec.{eqb}
-use borrow.Author.Tests.{le-leb, lt-leb}
-use Rattle.bits.specs.Byte.{between}
-use mathlib.Core.Bool.{true, false}
 use lib.Seq.{length-take-le, getD-take, getD-drop}
 use Rattle.bits.specs.Bit.{bit, Bytes}
 use Rattle.bits.proofs.Change.{bit-past}
-use Rattle.table.specs.Table.{Row, Table}
+use Rattle.table.specs.Table.{Row}
 use Rattle.table.specs.Fields.{byteAt, twoAt, lettersOf, letterOf, rowFrom, rowOf, tableOf}
 use Rattle.table.specs.RowCode.{rowIs}
 use Rattle.table.specs.declared.Row as Code
-
--- a byte inside a range, below it and above it
-pub range-inside : (low high b : ℕ) → low ≤ b → b ≤ high → between low high b ≡ true
-range-inside low high b above below = simp (le-leb low b above, le-leb b high below)
-
-pub range-below : (low high b : ℕ) → b < low → between low high b ≡ false
-range-below low high b below = simp (lt-leb low b below)
-
-pub range-above : (low high b : ℕ) → low ≤ b → high < b → between low high b ≡ false
-range-above low high b above over = simp (le-leb low b above, lt-leb b high over)
 
 -- a byte of a part
 part-inside : (l : List ℕ) (n m i : ℕ) → i < n → getD (take n (drop m l)) i 0 ≡ getD l (m + i) 0

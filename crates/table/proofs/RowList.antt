@@ -3,12 +3,12 @@ use Prim.Native.Nat.{ℕ, zero, suc, _+_, _*_, _/_, _%_, _≤_, _<_}
 use native.Mathlib.Nat.{add-zero, add-assoc}
 use native.Mathlib.Decide.{ℕ-discrete}
 use native.Mathlib.Omega.{arith}
-use mathlib.Core.Path.{_≡_, refl, sym, ap, subst, _∙_}
+use mathlib.Core.Path.{_≡_, refl, sym, ap, _∙_}
 use mathlib.Core.List.{List, [], _∷_, _++_, append-assoc, List·Memᴰ, List·Memᴰ·head, List·Memᴰ·tail}
 use lib.ListN.{length, getD, drop}
 use lib.Seq.{drop-drop}
 use Rattle.bits.specs.Bit.{Bytes}
-use Rattle.table.specs.Table.{Row, Table}
+use Rattle.table.specs.Table.{Row}
 use Rattle.table.specs.Image.{twoBytes, rowBytes, rowsBytes}
 use Rattle.table.specs.Fields.{byteAt, twoAt, lettersOf, rowFrom, rowOf, rowsFrom, rowCount, tableOf}
 use Rattle.table.proofs.Standing.{byte-from, split-here}

@@ -8,7 +8,7 @@ use lib.ListN.{length, getD, take, drop, length-drop, take-append-drop, List·ge
 use lib.Seq.{drop-cons, drop-drop, drop-at, take-at, getD-drop, length-take-le}
 use Rattle.bits.specs.Bit.{Bytes}
 use Rattle.table.specs.Image.{twoBytes, field}
-use Rattle.table.specs.Fields.{byteAt, twoAt, FieldAt}
+use Rattle.table.specs.Fields.{byteAt, FieldAt}
 
 -- at this place the image goes on with this field, and then with these bytes
 pub record Stands (image : List ℕ) (at tag : ℕ) (value rest : List ℕ) : Type 0 where

@@ -1,10 +1,11 @@
 -- When a test tells whether something holds.
 use Prim.Native.Nat.{ℕ, _≤_, _<_}
-use native.Mathlib.Nat.{lt-of-lt-of-le, not-le-of-lt}
+use native.Mathlib.Nat.{lt-of-lt-of-le}
 use mathlib.Core.Path.{_≡_, refl, sym, subst, _∙_}
 use mathlib.Core.Bool.{Bool, true, false, not, true≢false}
-use borrow.Author.Tests.{not-true, not-false, eqb-true, eqb-false, leb-true, leb-false, ltb-true, ltb-false}
-use lib.Dec.{T, eqb, leb, ltb}
+use borrow.Author.Tests.{not-true, not-false, le-leb, lt-leb}
+use lib.Dec.{T}
+use Rattle.bits.specs.Byte.{between}
 use Rattle.table.specs.Fields.{Tells}
 
 -- a result that is known
@@ -32,19 +33,16 @@ tells-test test same = record {
   fails = λ e t. subst T (sym same ∙ e) t;
 }
 
--- tests of numbers
-pub tells-eqb : (a b : ℕ) → Tells (eqb a b) (a ≡ b)
-tells-eqb a b = record { holds = eqb-true a b; fails = eqb-false a b }
+-- whether a byte is inside a range, below it or above it
+pub range-inside : (low high b : ℕ) → low ≤ b → b ≤ high → between low high b ≡ true
+range-inside low high b above below = simp (le-leb low b above, le-leb b high below)
 
-pub tells-leb : (a b : ℕ) → Tells (leb a b) (a ≤ b)
-tells-leb a b = record { holds = leb-true a b; fails = λ e l. not-le-of-lt (leb-false a b e) l }
+pub range-below : (low high b : ℕ) → b < low → between low high b ≡ false
+range-below low high b below = simp (lt-leb low b below)
 
-pub tells-ltb : (a b : ℕ) → Tells (ltb a b) (a < b)
-tells-ltb a b = record { holds = ltb-true a b; fails = λ e l. not-le-of-lt l (ltb-false a b e) }
+pub range-above : (low high b : ℕ) → low ≤ b → high < b → between low high b ≡ false
+range-above low high b above over = simp (le-leb low b above, lt-leb b high over)
 
--- a loop that has passed all numbers below n, and one that stops at a number
+-- a loop that has passed all numbers below n
 pub tells-all : {P : ℕ → Type 0} (n i : ℕ) → n ≤ i → ((j : ℕ) → j < i → P j) → Tells true ((j : ℕ) → j < n → P j)
 tells-all n i end passed = tells-yes refl (λ j low. passed j (lt-of-lt-of-le low end))
-
-pub tells-stop : {P : ℕ → Type 0} (n i : ℕ) → i < n → ¬ P i → Tells false ((j : ℕ) → j < n → P j)
-tells-stop n i low fails = tells-no refl (λ all. fails (all i low))

@@ -32,7 +32,7 @@ loop-again : tie.Need-loop-again Inv-loop μ-loop
 loop-again c =
     let l : c .before .loop .i < length (c .before .before .args .m .now) = omega arith in (
       omega arith,
-      length-set (c .before .loop .m) (c .before .loop .i) 0 ∙ c .before .loop .inv .1,
+      simp length-set (c .before .loop .inv .1),
       ap (λ (x : List ℕ). set x (c .before .loop .i) 0) (c .before .loop .inv .2) ∙ fill-more _ 0 _ l,
     )
 

@@ -1,8 +1,9 @@
 -- The symbol, the test, the move and the change. Assumes nothing.
+use native.Mathlib.Omega.{arith}
+use borrow.Author.Tests.{lt-leb, leb-true, leb-false}
 use mathlib.Core.Path.{refl}
 use native.Mathlib.Nat.{not-le-of-lt}
-use borrow.Author.Tests.{lt-leb}
-use Rattle.table.proofs.Telling.{refuted, kept, tells-as, tells-no, tells-leb}
+use Rattle.table.proofs.Telling.{refuted, kept, tells-no}
 use borrow.Author.Needs.{needs}
 use Rattle.table.proofs.form.codes_right.Statement.{statement}
 use Rattle.table.proofs.form.codes_right.Tie as tie
@@ -18,10 +19,11 @@ returns-2 c = tells-no refl (λ h. not-le-of-lt (c .if2 .taken) (h .1))
 
 returns-3 : tie.Need-returns-3
 returns-3 c =
-    tells-as
-    (tells-leb (c .before .before .before .before .before .before .before .args .row .change) 62)
-    (λ low. (kept (c .before .before .before .before .before .before .symbol-right .ensures) (c .before .before .before .before .before .if1 .left), c .before .before .before .if2 .left, c .before .if3 .taken, low))
-    (λ h. h .3)
+    let symbol = kept (c .before .before .before .before .before .before .symbol-right .ensures) (c .before .before .before .before .before .if1 .left) in
+    record {
+      holds = λ e. (symbol, c .before .before .before .if2 .left, c .before .if3 .taken, omega (arith, leb-true));
+      fails = λ e h. not-le-of-lt (leb-false _ _ e) (h .3);
+    }
 
 returns-4 : tie.Need-returns-4
 returns-4 c = tells-no (lt-leb _ _ (c .if3 .left)) (λ h. not-le-of-lt (c .if3 .left) (h .2))

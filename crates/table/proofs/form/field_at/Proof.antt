@@ -1,7 +1,7 @@
 -- Its tag, and then its length. Assumes nothing.
+use borrow.Author.Tests.{ne-eqb, eqb-true, eqb-false}
 use mathlib.Core.Path.{sym, _∙_}
-use borrow.Author.Tests.{ne-eqb}
-use Rattle.table.proofs.Telling.{tells-as, tells-no, tells-eqb}
+use Rattle.table.proofs.Telling.{tells-no}
 use borrow.Author.Needs.{needs}
 use Rattle.table.proofs.form.field_at.Statement.{statement}
 use Rattle.table.proofs.form.field_at.Tie as tie
@@ -17,10 +17,13 @@ two-at-requires c κs = search needs
 
 returns : tie.Need-returns
 returns c =
-    tells-as
-    (tells-eqb _ _)
-    (λ e. record { tag = sym (c .before .before .byte-at .ensures) ∙ c .before .if1 .taken; many = sym (c .two-at .ensures) ∙ e })
-    (λ f. c .two-at .ensures ∙ f .many)
+    record {
+      holds = λ e. record {
+        tag = sym (c .before .before .byte-at .ensures) ∙ c .before .if1 .taken;
+        many = sym (c .two-at .ensures) ∙ eqb-true _ _ e;
+      };
+      fails = λ e f. eqb-false _ _ e (c .two-at .ensures ∙ f .many);
+    }
 
 returns-2 : tie.Need-returns-2
 returns-2 c = tells-no (ne-eqb _ _ (c .if1 .left)) (λ f. c .if1 .left (c .before .byte-at .ensures ∙ f .tag))

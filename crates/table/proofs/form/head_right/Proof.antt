@@ -1,8 +1,8 @@
 -- Each part that is asked is one of those of `HeadRight`. Assumes nothing.
+use native.Mathlib.Omega.{arith}
+use borrow.Author.Tests.{lt-leb, leb-true, leb-false}
 use mathlib.Core.Path.{refl, sym, _∙_}
-use native.Mathlib.Nat.{not-le-of-lt}
-use borrow.Author.Tests.{lt-leb}
-use Rattle.table.proofs.Telling.{refuted, kept, tells-as, tells-no, tells-leb}
+use Rattle.table.proofs.Telling.{refuted, kept, tells-no}
 use borrow.Author.Needs.{needs}
 use Rattle.table.proofs.form.head_right.Statement.{statement}
 use Rattle.table.proofs.form.head_right.Tie as tie
@@ -33,19 +33,20 @@ returns-3 c = refuted (rw (c .before .before .before .before .before .before .le
 
 returns-4 : tie.Need-returns-4
 returns-4 c =
-    tells-as
-    (tells-leb (c .before .before .before .before .before .before .before .letters .result) 16)
-    (λ few. record {
-      first = kept (c .before .before .before .before .before .before .field-at .ensures) (c .before .before .before .before .before .if1 .left);
-      edition = sym (c .before .before .before .before .byte-at .ensures) ∙ c .before .before .before .if2 .left;
-      second = kept (rw (c .before .before .before .before .before .before .before .letters .ensures) at (c .before .before .field-at2 .ensures)) (c .before .if3 .left);
-      someLetter = rw (c .before .before .before .before .before .before .before .letters .ensures) at (c .if4 .taken);
-      fewLetters = rw (c .before .before .before .before .before .before .before .letters .ensures) at few;
-    })
-    (λ h. rw (c .before .before .before .before .before .before .before .letters .ensures) (h .fewLetters))
+    let letters = c .before .before .before .before .before .before .before .letters .ensures in
+    record {
+      holds = λ e. record {
+        first = kept (c .before .before .before .before .before .before .field-at .ensures) (c .before .before .before .before .before .if1 .left);
+        edition = sym (c .before .before .before .before .byte-at .ensures) ∙ c .before .before .before .if2 .left;
+        second = kept (rw letters at (c .before .before .field-at2 .ensures)) (c .before .if3 .left);
+        someLetter = omega (arith, letters, c .if4 .taken);
+        fewLetters = omega (arith, letters, leb-true);
+      };
+      fails = λ e h. omega (arith, letters, leb-false, h .fewLetters);
+    }
 
 returns-5 : tie.Need-returns-5
-returns-5 c = tells-no (lt-leb _ _ (c .if4 .left)) (λ h. not-le-of-lt (c .if4 .left) (rw (c .before .before .before .before .before .before .before .letters .ensures) (h .someLetter)))
+returns-5 c = tells-no (lt-leb _ _ (c .if4 .left)) (λ h. omega (arith, c .before .before .before .before .before .before .before .letters .ensures, c .if4 .left, h .someLetter))
 
 pub head-right-spec : {M : Type 1} → statement M
 head-right-spec =

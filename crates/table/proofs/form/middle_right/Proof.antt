@@ -1,8 +1,8 @@
 -- Each part that is asked is one of those of `MiddleRight`. Assumes nothing.
-use native.Mathlib.Nat.{not-le-of-lt}
+use native.Mathlib.Omega.{arith}
+use borrow.Author.Tests.{lt-leb, leb-true, leb-false}
 use mathlib.Core.Path.{refl}
-use borrow.Author.Tests.{lt-leb}
-use Rattle.table.proofs.Telling.{refuted, kept, tells-as, tells-no, tells-leb}
+use Rattle.table.proofs.Telling.{refuted, kept, tells-no}
 use Rattle.table.specs.Fields.{tableOf}
 use borrow.Author.Needs.{needs}
 use Rattle.table.proofs.form.middle_right.Statement.{statement}
@@ -34,8 +34,7 @@ byte-at-requires c κs = search needs
 
 returns-2 : tie.Need-returns-2
 returns-2 c =
-    let byte = rw (c .before .before .before .before .before .letters .ensures) at (c .before .byte-at .ensures) in
-    tells-no refl (λ h. not-le-of-lt (c .if2 .taken) (rw byte (h .flag)))
+    tells-no refl (λ h. omega (arith, (rw (c .before .before .before .before .before .letters .ensures) at (c .before .byte-at .ensures)), c .if2 .taken, h .flag))
 
 add-field-at-2 : tie.Need-add-field-at-2
 add-field-at-2 c = search needs
@@ -51,20 +50,20 @@ unfolding tableOf
 returns-4 c =
     let letters = c .before .before .before .before .before .before .before .before .letters .ensures in
     let states = c .before .before .before .before .before .before .before .state-count .ensures in
-    tells-as
-    (tells-leb (c .before .before .before .before .before .before .before .state-count .result) 128)
-    (λ few. record {
-      third = kept (rw letters at (c .before .before .before .before .before .before .field-at .ensures)) (c .before .before .before .before .before .if1 .left);
-      flag = rw (rw letters at (c .before .before .before .before .byte-at .ensures)) at (c .before .before .before .if2 .left);
-      fourth = kept (rw letters at (c .before .before .field-at2 .ensures)) (c .before .if3 .left);
-      someState = rw states at (c .if4 .taken);
-      fewStates = rw states at few;
-    })
-    (λ h. rw states (h .fewStates))
+    record {
+      holds = λ e. record {
+        third = kept (rw letters at (c .before .before .before .before .before .before .field-at .ensures)) (c .before .before .before .before .before .if1 .left);
+        flag = omega (arith, (rw letters at (c .before .before .before .before .byte-at .ensures)), c .before .before .before .if2 .left);
+        fourth = kept (rw letters at (c .before .before .field-at2 .ensures)) (c .before .if3 .left);
+        someState = omega (arith, states, c .if4 .taken);
+        fewStates = omega (arith, states, leb-true);
+      };
+      fails = λ e h. omega (arith, states, leb-false, h .fewStates);
+    }
 
 returns-5 : tie.Need-returns-5
 unfolding tableOf
-returns-5 c = tells-no (lt-leb _ _ (c .if4 .left)) (λ h. not-le-of-lt (c .if4 .left) (rw (c .before .before .before .before .before .before .before .state-count .ensures) (h .someState)))
+returns-5 c = tells-no (lt-leb _ _ (c .if4 .left)) (λ h. omega (arith, c .before .before .before .before .before .before .before .state-count .ensures, c .if4 .left, h .someState))
 
 pub middle-right-spec : {M : Type 1} → statement M
 middle-right-spec =

@@ -1,6 +1,6 @@
 -- Its states and its codes. Assumes nothing.
-use Rattle.table.proofs.Telling.{tells-as, tells-no}
-use Rattle.table.proofs.Decided.{row-parts, row-states, row-codes}
+use Rattle.table.proofs.Decided.{row-states, codes-tell}
+use Rattle.table.proofs.Telling.{tells-no}
 use borrow.Author.Needs.{needs}
 use Rattle.table.proofs.form.row_right.Statement.{statement}
 use Rattle.table.proofs.form.row_right.Tie as tie
@@ -19,12 +19,13 @@ codes-right-requires c κs = search needs
 
 returns : tie.Need-returns
 returns c =
-    let long = c .before .before .before .before .before .before .pre in
-    let row = c .before .before .before .before .row-at .ensures in
-    tells-as
-    (rw (c .before .letter-count .ensures) at (c .codes-right .ensures))
-    (λ codes. row-parts _ long row (c .before .before .before .states-right .ensures .holds (c .before .before .if1 .taken)) codes)
-    (λ right. row-codes _ long row right)
+    codes-tell
+    _
+    (c .before .before .before .before .before .before .pre)
+    (c .before .before .before .before .row-at .ensures)
+    (c .before .letter-count .ensures)
+    (c .before .before .before .states-right .ensures .holds (c .before .before .if1 .taken))
+    (c .codes-right .ensures)
 
 returns-2 : tie.Need-returns-2
 returns-2 c =

@@ -1,9 +1,10 @@
 -- A letter, or a mark or any. Assumes nothing.
+use native.Mathlib.Omega.{arith}
+use borrow.Author.Tests.{lt-leb, leb-true, leb-false}
 use mathlib.Core.Path.{refl}
 use mathlib.Core.Logic.{inl, inr, ⊎-elim}
 use native.Mathlib.Nat.{not-le-of-lt}
-use borrow.Author.Tests.{lt-leb}
-use Rattle.table.proofs.Telling.{tells-as, tells-yes, tells-no, tells-leb}
+use Rattle.table.proofs.Telling.{tells-yes, tells-no}
 use Rattle.table.proofs.form.symbol_right.Statement.{statement}
 use Rattle.table.proofs.form.symbol_right.Tie as tie
 
@@ -12,10 +13,10 @@ returns c = tells-yes refl (inl (c .if1 .taken))
 
 returns-2 : tie.Need-returns-2
 returns-2 c =
-    tells-as
-    (tells-leb (c .before .before .args .symbol) 18)
-    (λ low. inr (c .if2 .taken, low))
-    (λ code. ⊎-elim (λ l. absurd (not-le-of-lt l (c .before .if1 .left))) (λ w. w .1) code)
+    record {
+      holds = λ e. inr (c .if2 .taken, omega (arith, leb-true));
+      fails = λ e code. ⊎-elim (λ l. not-le-of-lt l (c .before .if1 .left)) (λ w. not-le-of-lt (leb-false _ _ e) (w .1)) code;
+    }
 
 returns-3 : tie.Need-returns-3
 returns-3 c =

@@ -1,9 +1,8 @@
 -- Each part that is asked is one of those of `TailRight`. Assumes nothing.
-use Prim.Native.Nat.{_+_, _*_}
-use lib.ListN.{length}
-use native.Mathlib.Nat.{not-le-of-lt}
+use native.Mathlib.Omega.{arith}
+use borrow.Author.Tests.{eqb-true, eqb-false}
 use mathlib.Core.Path.{refl}
-use Rattle.table.proofs.Telling.{refuted, kept, tells-as, tells-no, tells-eqb}
+use Rattle.table.proofs.Telling.{refuted, kept, tells-no}
 use borrow.Author.Needs.{needs}
 use Rattle.table.proofs.form.tail_right.Statement.{statement}
 use Rattle.table.proofs.form.tail_right.Tie as tie
@@ -18,7 +17,7 @@ row-count-requires : tie.Need-row-count-requires
 row-count-requires c κs = search needs
 
 returns : tie.Need-returns
-returns c = tells-no refl (λ h. not-le-of-lt (c .if1 .taken) (rw (c .before .row-count .ensures) (h .fewRows)))
+returns c = tells-no refl (λ h. omega (arith, c .before .row-count .ensures, c .if1 .taken, h .fewRows))
 
 add-field-at : tie.Need-add-field-at
 add-field-at c = search needs
@@ -51,15 +50,15 @@ returns-3 : tie.Need-returns-3
 returns-3 c =
     let letters = c .before .before .before .before .before .before .letters .ensures in
     let rows = c .before .before .before .before .before .row-count .ensures in
-    tells-as
-    (tells-eqb (length (c .before .before .before .before .before .before .before .before .args .image .now)) (c .before .before .before .before .before .before .letters .result + 38 + c .before .before .before .before .before .row-count .result * 8))
-    (λ end. record {
-      fifth = kept (rw letters at (c .before .before .before .field-at .ensures)) (c .before .before .if2 .left);
-      sixth = (rw (letters, rows) at (c .before .field-at2 .ensures)) .holds (c .if3 .taken);
-      fewRows = rw rows at (c .before .before .before .before .if1 .left);
-      end = rw (letters, rows) at end;
-    })
-    (λ h. rw (letters, rows) (h .end))
+    record {
+      holds = λ e. record {
+        fifth = kept (rw letters at (c .before .before .before .field-at .ensures)) (c .before .before .if2 .left);
+        sixth = (rw (letters, rows) at (c .before .field-at2 .ensures)) .holds (c .if3 .taken);
+        fewRows = omega (arith, rows, c .before .before .before .before .if1 .left);
+        end = omega (arith, letters, rows, eqb-true);
+      };
+      fails = λ e h. omega (arith, letters, rows, eqb-false, h .end);
+    }
 
 returns-4 : tie.Need-returns-4
 returns-4 c =
