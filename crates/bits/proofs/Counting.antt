@@ -1,24 +1,20 @@
 -- A count of ones is the size of the set of bits that are 1.
-use Prim.Native.Nat.{ℕ, zero, suc, _+_, _*_, _/_, _%_, _^_, _≤_, _<_}
+use Prim.Native.Nat.{ℕ, zero, suc, _+_, _-_, _*_, _/_, _%_, _^_, _≤_, _<_, min}
 use native.Mathlib.Nat.{eq-or-lt-of-le, le-of-suc-le-suc, pow-suc, le-refl, add-zero, add-suc}
 use native.Mathlib.Omega.{arith}
 use mathlib.Core.Path.{_≡_, refl, sym, ap, ap₂, subst, _∙_}
 use mathlib.Core.Logic.{_⊎_, inl, inr, ⊎-elim, ∥∥₁-elim}
 use mathlib.Core.HLevel.{⊥-prop}
 use mathlib.Core.List.{List, [], _∷_, List·Memᴰ, List·Memᴰ·head, List·Memᴰ·tail, List·Nodup, Pairwise·nil, Pairwise·cons}
-use lib.ListN.{length, getD}
+use lib.ListN.{length, getD, take, length-take}
+use lib.Seq.{getD-take}
 use lib.Arith.{lt-one}
 use lib.Count.{ones, ones-step}
 use Rattle.bits.specs.Bit.{bit}
 use Rattle.bits.specs.Size.{Size}
-use Rattle.bits.specs.Ones.{Ones}
+use Rattle.bits.specs.Ones.{Ones, sumBelow, OnesBetween}
 use Rattle.bits.proofs.Bits.{bit-zero-or-one, bit-of-byte, half-bits}
 use Rattle.bits.proofs.Change.{bit-inside}
-
--- the sum of a function over the numbers below n
-pub sumBelow : (ℕ → ℕ) → ℕ → ℕ
-sumBelow f zero = 0
-sumBelow f (suc n) = f n + sumBelow f n
 
 -- a number before others, if its digit is 1
 pick : ℕ → ℕ → List ℕ → List ℕ
@@ -145,31 +141,53 @@ sum-of-digits (suc k) a low =
     (sum-same (λ (j : ℕ). a / 2 ^ suc j % 2) (λ (j : ℕ). a / 2 / 2 ^ j % 2) k (λ j l. ap (λ (x : ℕ). x % 2) (sym (half-bits a j))) ∙ sum-of-digits k (a / 2) (omega (arith, pow-suc 2 k)))
     ∙ sym (ones-step a)
 
--- the sum is that of the bits of the first i bytes
-pub record Counted (m : List ℕ) (i n : ℕ) : Type 0 where
-  pub sum : n ≡ sumBelow (bit m) (i * 8)
-
-pub counted-none : (m : List ℕ) → Counted m 0 0
-unfolding sumBelow
-counted-none m = record { sum = refl }
+-- no byte
+pub ones-none : (m : List ℕ) (at : ℕ) → OnesBetween m at at 0
+ones-none m at = record { sum = omega arith }
 
 -- the next byte's ones are added
-pub counted-more : {m : List ℕ} {i n : ℕ} → getD m i 0 < 256 → Counted m i n → Counted m (i + 1) (n + ones (getD m i 0))
-counted-more {m} {i} byte so =
+pub ones-more
+    : {m : List ℕ} {from i n : ℕ} → getD m i 0 < 256 → OnesBetween m from i n → OnesBetween m from (i + 1) (n + ones (getD m i 0))
+ones-more {m} {from} {i} byte so =
     let terms = sum-same (λ (j : ℕ). bit m (i * 8 + j)) (λ (j : ℕ). getD m i 0 / 2 ^ j % 2) 8 (bit-of-byte m i) in
     let next : (i + 1) * 8 ≡ i * 8 + 8 = omega arith in
     record { sum = rw next (omega (arith, sum-more (bit m) (i * 8) 8, terms, sum-of-digits 8 (getD m i 0) byte, so .sum)) }
 
-pub counted-at-most : {m : List ℕ} {i n : ℕ} → Counted m i n → n ≤ i * 8
-counted-at-most {m} {i} so = omega (arith, so .sum, sum-at-most (bit m) (bit-zero-or-one m) (i * 8))
+-- up to the same place
+pub ones-to : {m : List ℕ} {from i to n : ℕ} → i ≡ to → OnesBetween m from i n → OnesBetween m from to n
+ones-to {m} {from} {n = n} end so = subst (λ (x : ℕ). OnesBetween m from x n) end so
 
--- after all bytes the sum is the number of bits that are set
-pub counted-all : {m : List ℕ} {i n : ℕ} → i ≡ length m → Counted m i n → Ones m n
-counted-all {m} {i} end so =
+-- the next bytes' ones are added
+pub ones-both : {m : List ℕ} {from mid to n k : ℕ} → OnesBetween m from mid n → OnesBetween m mid to k → OnesBetween m from to (n + k)
+ones-both a b = record { sum = omega (arith, a .sum, b .sum) }
+
+-- they are at most eight for each byte
+pub ones-at-most : {m : List ℕ} {from to n : ℕ} → from ≤ to → OnesBetween m from to n → n + from * 8 ≤ to * 8
+ones-at-most {m} {from} {to} ahead so =
+    let parts : from * 8 + (to - from) * 8 ≡ to * 8 = omega arith in
+    omega (
+      arith,
+      so .sum,
+      rw parts at (sum-more (bit m) (from * 8) ((to - from) * 8)),
+      sum-at-most (λ (j : ℕ). bit m (from * 8 + j)) (λ j. bit-zero-or-one m (from * 8 + j)) ((to - from) * 8),
+    )
+
+-- the first bytes have the same bits
+bit-take : (m : List ℕ) (many j : ℕ) → j < many * 8 → bit m j ≡ bit (take many m) j
+unfolding bit
+bit-take m many j low = ap (λ (b : ℕ). b / 2 ^ (j % 8) % 2) (sym (getD-take many m (j / 8) 0 (omega arith)))
+
+-- after the first bytes the sum is the number of their bits that are set
+pub ones-all : {m : List ℕ} {to n : ℕ} (many : ℕ) → to ≡ min many (length m) → OnesBetween m 0 to n → Ones (take many m) n
+unfolding sumBelow
+ones-all {m} {to} {n} many end so =
     record {
       size =
           subst
-          (λ (x : ℕ). Size (λ (j : ℕ). bit m j ≡ 1) x)
-          (sym (so .sum))
-          (size-of-sum (bit m) (bit-zero-or-one m) (i * 8) (λ j one. omega (arith, bit-inside m j one)));
+          (λ (x : ℕ). Size (λ (j : ℕ). bit (take many m) j ≡ 1) x)
+          sum
+          (size-of-sum (bit (take many m)) (bit-zero-or-one (take many m)) (to * 8) (λ j one. omega (arith, bit-inside (take many m) j one, length-take many m)));
     }
+  where
+    sum : sumBelow (bit (take many m)) (to * 8) ≡ n
+    sum = omega (arith, so .sum, sum-same (bit m) (bit (take many m)) (to * 8) (λ j low. bit-take m many j (omega arith)))

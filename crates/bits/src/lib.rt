@@ -1,9 +1,9 @@
 // Bits of a slice of bytes, and counts of ones. Bit i is bit i mod 8, the least being 0, of byte i / 8.
 ghost use mathlib.Core.Path.{_≡_};
-ghost use Prim.Native.Nat.{_^_, _<_};
-ghost use lib.ListN.{getD, length, replicate};
+ghost use Prim.Native.Nat.{_+_, _≤_, min};
+ghost use lib.ListN.{getD, length, take, replicate};
 ghost use Rattle.bits.specs.Bit.{bit, withBit, withoutBit};
-ghost use Rattle.bits.specs.Ones.{Ones};
+ghost use Rattle.bits.specs.Ones.{Ones, OnesBetween};
 
 // Byte i, or 0 past the end.
 pub fn byte_at(m: &[u8], i: usize) -> u8
@@ -41,18 +41,39 @@ pub fn clear_bit(m: &mut [u8], i: usize)
     }
 }
 
-// How many bits are set. Of more bytes the number might not fit.
-pub fn count_ones(m: &[u8]) -> usize
-    requires { ⌜ length (now m) < 2 ^ 61 ⌝ }
-    ensures { λ r. ⌜ Ones (now (m .entry)) r ⌝ }
+fn at_most(n: usize, most: usize) -> usize
+    ensures { λ r. ⌜ r ≡ min n most ⌝ }
 {
-    let mut sum: usize = 0;
-    let mut i = 0;
-    while i < m.len() {
-        sum += u8::count_ones(m[i]) as usize;
+    if n < most { n } else { most }
+}
+
+// How many bits are set in at most 16 bytes, from one place up to another. So few fit a byte, in which many are added at once.
+fn ones_between(m: &[u8], from: usize, to: usize) -> u8
+    requires { ⌜ (from ≤ to) × (to ≤ from + 16) × (to ≤ length (now m)) ⌝ }
+    ensures { λ r. ⌜ OnesBetween (now (m .entry)) from to r ⌝ }
+{
+    let mut sum: u8 = 0;
+    let mut i = from;
+    while i < to {
+        sum += u8::count_ones(m[i]) as u8;
         i += 1;
     }
     sum
+}
+
+// How many bits are set in the first 65,536 bytes.
+pub fn count_ones(m: &[u8]) -> usize
+    ensures { λ r. ⌜ Ones (take 65536 (now (m .entry))) r ⌝ }
+{
+    let end = at_most(m.len(), 65536);
+    let mut sum: usize = 0;
+    let mut i = 0;
+    while i + 16 <= end {
+        let next = i + 16;
+        sum += ones_between(m, i, next) as usize;
+        i = next;
+    }
+    sum + ones_between(m, i, end) as usize
 }
 
 // Every byte becomes 0.

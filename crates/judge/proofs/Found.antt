@@ -6,7 +6,7 @@ use mathlib.Core.Path.{_≡_, refl, sym, ap, _∙_, subst}
 use mathlib.Core.Bool.{Bool, true, false, true≢false}
 use mathlib.Core.List.{List}
 use lib.ListN.{length, getD, take, replicate, length-replicate}
-use lib.Seq.{getD-take, length-take-le}
+use lib.Seq.{getD-take, length-take-le, take-all}
 use Rattle.bits.specs.Bit.{bit, Bytes}
 use Rattle.bits.specs.Size.{Size}
 use Rattle.bits.specs.Ones.{Ones}
@@ -124,19 +124,23 @@ module _ {image w : List ℕ} {L : ℕ} {m : List ℕ} {over : Bool} (found : Se
   pub half-length : length (take firstHalf m) ≡ firstHalf
   half-length = length-take-le firstHalf m (omega (arith, found .between .room))
 
+  -- and is counted whole
+  half-whole : {c : ℕ} → Ones (take markBytes (take firstHalf m)) c → Ones (take firstHalf m) c
+  half-whole {c} = subst (λ (l : List ℕ). Ones l c) (take-all markBytes (take firstHalf m) (omega (arith, half-length)))
+
   -- its ones are no more than its bits
-  pub count-low : {c : ℕ} → Ones (take firstHalf m) c → c ≤ situations
-  count-low ones = size-numbered (ones .size) situations (λ i. i) (λ i one. (i, half-low found i one, refl))
+  pub count-low : {c : ℕ} → Ones (take markBytes (take firstHalf m)) c → c ≤ situations
+  count-low ones = size-numbered (half-whole ones .size) situations (λ i. i) (λ i one. (i, half-low found i one, refl))
 
   -- the verdict, the count and the marks
   pub found-decided
-      : {yes : Bool} {number count : ℕ} → Tells yes (MarkedAccepts image m) → Ones (take firstHalf m) count → Bytes m → number ≡ verdictNumber (verdictOf yes over)
+      : {yes : Bool} {number count : ℕ} → Tells yes (MarkedAccepts image m) → Ones (take markBytes (take firstHalf m)) count → Bytes m → number ≡ verdictNumber (verdictOf yes over)
       → Decided image w L m (number * 1000000 + count)
   found-decided {yes} {number} {count} tells ones bytes is = record {
     verdict = verdictOf yes over;
     many = count;
     right = found-verdict yes over tells found;
-    count = found-count found ones;
+    count = found-count found (half-whole ones);
     marks = found-marks found bytes;
     number = rw is refl;
   }

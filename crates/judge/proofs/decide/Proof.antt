@@ -23,7 +23,7 @@ slice-aggregate-count-ones : tie.Need-slice-aggregate-count-ones
 slice-aggregate-count-ones c = sym (half-length (c .before .before .before .before .before .search .ensures))
 
 count-ones-requires : tie.Need-count-ones-requires
-count-ones-requires c κs = omega (arith, half-length (c .before .before .before .before .before .search .ensures))
+count-ones-requires c κs = search needs
 
 verdict-number-requires : tie.Need-verdict-number-requires
 verdict-number-requires c κs = search needs

@@ -1,0 +1,65 @@
+-- The sum is that of the bits of the bytes passed, at most eight for each. The measure is what is left of them. Assumes nothing.
+use Prim.Native.Nat.{_≤_, _+_, _-_}
+use native.Mathlib.Omega.{arith}
+use mathlib.Core.Path.{_≡_, subst}
+use lib.ListN.{length, getD}
+use lib.Count.{ones}
+use Rattle.bits.specs.Ones.{OnesBetween}
+use Rattle.bits.proofs.Counting.{ones-none, ones-more, ones-at-most, ones-to}
+use Rattle.bits.proofs.ones_between.Statement.{statement}
+use Rattle.bits.proofs.ones_between.Tie as tie
+
+abbrev Inv-loop : tie.InvT-loop
+Inv-loop m from to sum₀ i₀ sum i = (from ≤ i) × (i ≤ to) × OnesBetween m from i sum
+
+abbrev μ-loop : tie.MeasureT-loop
+μ-loop m from to sum₀ i₀ sum i = to - i
+
+loop-holds : tie.Need-loop-holds Inv-loop μ-loop
+loop-holds c = (omega arith, omega arith, ones-none _ _)
+
+-- the sum with the next byte's ones
+next
+    : (c : tie.After-shared-slice-known Inv-loop μ-loop)
+    → OnesBetween
+    (c .before .before .before .args .m .now)
+    (c .before .before .before .args .from)
+    (c .before .before .loop .i + 1)
+    (c .before .before .loop .sum + ones (getD (c .before .before .before .args .m .now) (c .before .before .loop .i) 0))
+next c = ones-more (c .shared-slice-known .given (c .before .before .loop .i) .fits) (c .before .before .loop .inv .2)
+
+shared-slice-read-sum : tie.Need-shared-slice-read-sum Inv-loop μ-loop
+shared-slice-read-sum c = omega arith
+
+cast-sum : tie.Need-cast-sum Inv-loop μ-loop
+cast-sum c = omega (arith, ones-at-most (omega arith) (next c))
+
+add-sum : tie.Need-add-sum Inv-loop μ-loop
+add-sum c = omega (arith, ones-at-most (omega arith) (next c))
+
+add-i : tie.Need-add-i Inv-loop μ-loop
+add-i c = omega arith
+
+loop-less : tie.Need-loop-less Inv-loop μ-loop
+loop-less c = omega arith
+
+loop-again : tie.Need-loop-again Inv-loop μ-loop
+loop-again c = (omega arith, omega arith, next c)
+
+returns : tie.Need-returns Inv-loop μ-loop
+returns c = ones-to (omega arith) (c .before .loop .inv .2)
+
+pub ones-between-spec : {M : Type 1} → statement M
+ones-between-spec =
+    tie.close
+    (tie.spec
+    Inv-loop
+    μ-loop
+    loop-holds
+    shared-slice-read-sum
+    cast-sum
+    add-sum
+    add-i
+    loop-less
+    loop-again
+    returns)
