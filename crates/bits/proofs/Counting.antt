@@ -9,6 +9,7 @@ use mathlib.Core.List.{List, [], _∷_, List·Memᴰ, List·Memᴰ·head, List·
 use lib.ListN.{length, getD, take, length-take}
 use lib.Seq.{getD-take}
 use lib.Arith.{lt-one}
+use lib.Bits.{bitOr, or-add-and, and-le-l, and-le-r}
 use lib.Count.{ones, ones-step}
 use Rattle.bits.specs.Bit.{bit}
 use Rattle.bits.specs.Size.{Size}
@@ -152,6 +153,20 @@ ones-more {m} {from} {i} byte so =
     let terms = sum-same (λ (j : ℕ). bit m (i * 8 + j)) (λ (j : ℕ). getD m i 0 / 2 ^ j % 2) 8 (bit-of-byte m i) in
     let next : (i + 1) * 8 ≡ i * 8 + 8 = omega arith in
     record { sum = rw next (omega (arith, sum-more (bit m) (i * 8) 8, terms, sum-of-digits 8 (getD m i 0) byte, so .sum)) }
+
+-- no bit is set in bytes that are 0
+pub blank-more
+    : {m : List ℕ} {from i : ℕ} (all : ℕ) → getD m i 0 < 256 → (all ≡ 0 → OnesBetween m from i 0) → bitOr all (getD m i 0) ≡ 0 → OnesBetween m from (i + 1) 0
+unfolding ones
+blank-more {m} {from} {i} all byte so none =
+    let both : (all ≡ 0) × (getD m i 0 ≡ 0) =
+    let a = or-add-and all (getD m i 0) in
+    let b = and-le-l all (getD m i 0) in
+    let c = and-le-r all (getD m i 0) in
+    (omega arith, omega arith) in
+    let none′ : ones (getD m i 0) ≡ 0 = ap ones (both .1) in
+    let sum : 0 + ones (getD m i 0) ≡ 0 = omega (arith, none′) in
+    subst (OnesBetween m from (i + 1)) sum (ones-more byte (so (both .0)))
 
 -- up to the same place
 pub ones-to : {m : List ℕ} {from i to n : ℕ} → i ≡ to → OnesBetween m from i n → OnesBetween m from to n

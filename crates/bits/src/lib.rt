@@ -1,5 +1,6 @@
 // Bits of a slice of bytes, and counts of ones. Bit i is bit i mod 8, the least being 0, of byte i / 8.
 ghost use mathlib.Core.Path.{_≡_};
+ghost use mathlib.Core.Bool.{true};
 ghost use Prim.Native.Nat.{_+_, _≤_, min};
 ghost use lib.ListN.{getD, length, take, replicate};
 ghost use Rattle.bits.specs.Bit.{bit, withBit, withoutBit};
@@ -47,15 +48,32 @@ fn at_most(n: usize, most: usize) -> usize
     if n < most { n } else { most }
 }
 
-// How many bits are set in at most 16 bytes, from one place up to another. So few fit a byte, in which many are added at once.
-fn ones_between(m: &[u8], from: usize, to: usize) -> u8
-    requires { ⌜ (from ≤ to) × (to ≤ from + 16) × (to ≤ length (now m)) ⌝ }
-    ensures { λ r. ⌜ OnesBetween (now (m .entry)) from to r ⌝ }
+// Whether the bytes from one place up to another are all 0.
+fn blank(m: &[u8], from: usize, to: usize) -> bool
+    requires { ⌜ (from ≤ to) × (to ≤ length (now m)) ⌝ }
+    ensures { λ r. ⌜ (r ≡ true → OnesBetween (now (m .entry)) from to 0) ⌝ }
 {
-    let mut sum: u8 = 0;
+    let mut all: u8 = 0;
     let mut i = from;
     while i < to {
-        sum += u8::count_ones(m[i]) as u8;
+        all = all | m[i];
+        i += 1;
+    }
+    all == 0
+}
+
+// How many bits are set in at most 256 bytes, from one place up to another. So few fit 16 bits, in which several are added at once.
+fn ones_between(m: &[u8], from: usize, to: usize) -> u16
+    requires { ⌜ (from ≤ to) × (to ≤ from + 256) × (to ≤ length (now m)) ⌝ }
+    ensures { λ r. ⌜ OnesBetween (now (m .entry)) from to r ⌝ }
+{
+    if blank(m, from, to) {
+        return 0;
+    }
+    let mut sum: u16 = 0;
+    let mut i = from;
+    while i < to {
+        sum += u8::count_ones(m[i]) as u16;
         i += 1;
     }
     sum
@@ -68,8 +86,8 @@ pub fn count_ones(m: &[u8]) -> usize
     let end = at_most(m.len(), 65536);
     let mut sum: usize = 0;
     let mut i = 0;
-    while i + 16 <= end {
-        let next = i + 16;
+    while i + 256 <= end {
+        let next = i + 256;
         sum += ones_between(m, i, next) as usize;
         i = next;
     }

@@ -2,19 +2,20 @@
 use Prim.Native.Nat.{ℕ, _+_, _*_, _/_, _%_, _≤_, _<_}
 use native.Mathlib.Omega.{arith}
 use mathlib.Core.Path.{_≡_, refl, sym, ap, _∙_, subst}
-use mathlib.Core.Bool.{Bool, true, false, true≢false}
-use borrow.Author.Tests.{ne-eqb}
+use mathlib.Core.Bool.{Bool, true, false, true≢false, _&&_}
+use borrow.Author.Tests.{eq-eqb, ne-eqb}
 use mathlib.Core.List.{List}
 use Rattle.bits.specs.Bit.{withoutBit}
 use Rattle.table.specs.Table.{Row, Table}
-use Rattle.table.specs.Fields.{tableOf, rowOf, rowCount}
-use Rattle.machine.specs.Step.{Situation, rowFits, Takes}
+use Rattle.table.specs.Fields.{byteAt, twoAt, rowFrom, tableOf, rowOf, rowCount}
+use Rattle.machine.specs.Step.{Situation, symbolFits, counterFits, rowFits, Takes}
+use Rattle.machine.specs.Cell.{Symbol}
 use Rattle.machine.specs.Outcome.{stepFrom, stepTo, OutcomeRight, Steps}
 use Rattle.machine.specs.declared.Outcome.{Outcome}
 use Rattle.machine.specs.declared.Outcome.the-variants.{Goes, Blocked, OverLimit}
 use Rattle.judge.specs.Marks.{HasMark, markOf}
 use Rattle.judge.specs.Search.{situations, situationOf, marked, Followed, Searching, Keeps}
-use Rattle.judge.specs.Inner.{RowOpen, RowFollowed, Waiting, Expanded}
+use Rattle.judge.specs.Inner.{suited, RowOpen, RowHere, RowFollowed, Waiting, Expanded}
 use Rattle.judge.proofs.Marks.{mark-below}
 use Rattle.judge.proofs.Marking.{marked-followed}
 use Rattle.judge.proofs.Searching.{mark-for, row-blocked, row-above, row-within, rows-done, rows-begin, begun-followed, begun-keeps}
@@ -23,16 +24,55 @@ use Rattle.judge.proofs.Searching.{mark-for, row-blocked, row-above, ro
 pub same-keeps : {m : List ℕ} → Keeps m m
 same-keeps i low f = f
 
+and-false : (a : Bool) → (a && false) ≡ false
+and-false true = refl
+and-false false = refl
+
+and-true : (a : Bool) → (a && true) ≡ a
+and-true true = refl
+and-true false = refl
+
 -- a row out of another state can't be taken
 other-state : {t : Table} {w : List ℕ} {r : Row} {s u : Situation} → ¬ (r .from ≡ s .state) → ¬ Takes t w r s u
 unfolding rowFits
 other-state {t} {w} {r} {s} other takes =
     true≢false (sym (takes .fits) ∙ rw (ne-eqb (r .from) (s .state) other) refl)
 
+-- when the row that stands here fits
+module _ (image : List ℕ) (at state counter : ℕ) (seen : Symbol) where
+  pub suited-other : (from : ℕ) → from ≡ twoAt image at → ¬ (from ≡ state) → false ≡ suited image at state counter seen
+  unfolding suited rowFrom
+  suited-other from is other = sym (rw (ne-eqb (twoAt image at) state (λ e. other (is ∙ e))) refl)
+
+  pub suited-test
+      : (from : ℕ) → from ≡ twoAt image at → from ≡ state → counterFits (byteAt image (at + 3)) counter ≡ false → false ≡ suited image at state counter seen
+  unfolding suited rowFrom
+  suited-test from is here other =
+      sym (rw (eq-eqb (twoAt image at) state (sym is ∙ here), other) (and-false (symbolFits (tableOf image .alphabet) (byteAt image (at + 2)) seen)))
+
+  pub suited-symbol
+      : (from : ℕ) → from ≡ twoAt image at → from ≡ state → counterFits (byteAt image (at + 3)) counter ≡ true
+      → symbolFits (tableOf image .alphabet) (byteAt image (at + 2)) seen ≡ suited image at state counter seen
+  unfolding suited rowFrom
+  suited-symbol from is here fits =
+      sym (rw (eq-eqb (twoAt image at) state (sym is ∙ here), fits) (and-true (symbolFits (tableOf image .alphabet) (byteAt image (at + 2)) seen)))
+
+-- a row that does not can't be taken
+unsuited
+    : {image w : List ℕ} {L : ℕ} {m : List ℕ} {over : Bool} {i n at : ℕ} {seen : Symbol} → RowHere image w L m over i n at seen
+    → suited image at (i / 32 / 64) (i % 32) seen ≡ false → {u : Situation} → ¬ Takes (tableOf image) w (rowOf image n) (situationOf i) u
+unfolding suited rowFits
+unsuited here other takes = true≢false (sym (takes .fits) ∙ (rw (here .place, here .sees) at other))
+
 module _ {image w : List ℕ} {L : ℕ} {m : List ℕ} {over : Bool} {i n : ℕ} (row : RowOpen image w L m over i n) where
   -- it does nothing
   pub followed-other : (from : ℕ) → from ≡ rowOf image n .from → ¬ (from ≡ i / 32 / 64) → RowFollowed image w L m m over i n
   followed-other from is other = record { at = row-blocked (row .at) (λ u. other-state (λ e. other (is ∙ e))); keeps = same-keeps }
+
+  -- a row that does not fit can't be taken
+  pub followed-unsuited
+      : {at : ℕ} {seen : Symbol} → RowHere image w L m over i n at seen → suited image at (i / 32 / 64) (i % 32) seen ≡ false → RowFollowed image w L m m over i n
+  followed-unsuited here other = record { at = row-blocked (row .at) (λ u. unsuited here other); keeps = same-keeps }
 
   module _ (from : ℕ) (starts : from ≡ rowOf image n .from) (here : from ≡ i / 32 / 64) (code : Row) (is : code ≡ rowOf image n) (o : Outcome)
       (steps : Steps (tableOf image) w code L (stepFrom code (i / 32 % 64) (i % 32)) o) where

@@ -10,6 +10,7 @@ use Rattle.table.specs.Table.{Table}
 use Rattle.table.specs.WellFormed.{IsImage}
 use Rattle.table.specs.Fields.{tableOf}
 use Rattle.table.proofs.Image.{table-once}
+use Rattle.table.proofs.Encoded.{image-tail}
 use Rattle.table.proofs.Refusal.{Single, Gives, Each, single-because, single-at-zero, first-once, first-has}
 use Rattle.machine.specs.Run.{Reach, Accepts}
 use Rattle.machine.proofs.Run.{no-everywhere}
@@ -140,7 +141,7 @@ module _ {image word : List ℕ} {limit : ℕ} {before after : List ℕ} where
 pub judgeable-undecided
     : {image word : List ℕ} {limit : ℕ} {before : List ℕ} → Judgeable (tableOf image) image word limit before → Undecided image word limit before
 judgeable-undecided j = record {
-  ready = record { range = j .isImage .inRange; short = j .short; low = j .low };
+  ready = record { range = j .isImage .inRange; long = omega (arith, image-tail (j .isImage) .end); short = j .short; low = j .low };
   room = j .room;
 }
 

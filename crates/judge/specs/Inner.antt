@@ -1,14 +1,17 @@
 -- What the judge's own functions promise one another.
-use Prim.Native.Nat.{ℕ, _+_, _*_, _≤_, _<_}
+use Prim.Native.Nat.{ℕ, _+_, _*_, _/_, _%_, _≤_, _<_}
 use mathlib.Core.Path.{_≡_}
-use mathlib.Core.Bool.{Bool, true, false}
+use mathlib.Core.Bool.{Bool, true, false, _&&_}
 use mathlib.Core.List.{List, List·Memᴰ}
 use lib.ListN.{length, getD}
+use lib.Dec.{eqb}
 use Rattle.bits.specs.Bit.{bit}
 use Rattle.bits.specs.Size.{Size}
 use Rattle.table.specs.Table.{Accepting}
 use Rattle.table.specs.Refusal.{First, refusal}
-use Rattle.table.specs.Fields.{tableOf, rowCount}
+use Rattle.table.specs.Fields.{lettersOf, rowFrom, tableOf, rowCount}
+use Rattle.machine.specs.Cell.{Symbol, symbolOn}
+use Rattle.machine.specs.Step.{symbolFits, counterFits}
 use Rattle.machine.specs.Run.{Reach}
 use Rattle.judge.specs.Verdict.{Verdict, Yes, No, LimitMet, verdictNumber, IsVerdict}
 use Rattle.judge.specs.Marks.{markBytes, firstHalf, Marks}
@@ -50,6 +53,18 @@ pub record RowOpen (image w : List ℕ) (L : ℕ) (m : List ℕ) (over : Bool) (
   pub low : i < situations
   pub followed : Followed m i
   pub few : r < rowCount image
+
+-- whether the row that stands here leaves a state and fits a counter and what is seen
+unfoldable pub suited : List ℕ → ℕ → ℕ → ℕ → Symbol → Bool
+suited image at state counter seen =
+    eqb (rowFrom image at .from) state
+    && (symbolFits (tableOf image .alphabet) (rowFrom image at .symbol) seen && counterFits (rowFrom image at .test) counter)
+
+-- row r of situation i, which stands here, is to be followed, and this is what is seen
+pub record RowHere (image w : List ℕ) (L : ℕ) (m : List ℕ) (over : Bool) (i r at : ℕ) (seen : Symbol) : Type 0 where
+  pub row : RowOpen image w L m over i r
+  pub place : at ≡ lettersOf image + 38 + r * 8
+  pub sees : seen ≡ symbolOn w (i / 32 % 64)
 
 -- and was
 pub record RowFollowed (image w : List ℕ) (L : ℕ) (m m′ : List ℕ) (over : Bool) (i r : ℕ) : Type 0 where

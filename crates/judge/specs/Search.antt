@@ -9,7 +9,7 @@ use lib.Dec.{eqb}
 use Rattle.bits.specs.Bit.{bit, withBit}
 use Rattle.table.specs.Table.{Row, Table, Accepting}
 use Rattle.table.specs.WellFormed.{InRange}
-use Rattle.table.specs.Fields.{tableOf, rowOf, rowCount}
+use Rattle.table.specs.Fields.{lettersOf, tableOf, rowOf, rowCount}
 use Rattle.machine.specs.Step.{Situation, Takes}
 use Rattle.machine.specs.Run.{Reach, Passes}
 use Rattle.judge.specs.Marks.{markBytes, firstHalf, markOf}
@@ -35,9 +35,10 @@ pub record RowDone (t : Table) (w : List ℕ) (L : ℕ) (m : List ℕ) (over : B
   pub within : (u : Situation) → Takes t w r s u → u .counter ≤ L → bit m (markOf u) ≡ 1
   pub above : (u : Situation) → Takes t w r s u → L < u .counter → over ≡ true
 
--- what is searched: a table within its ranges, a short word and a low limit
+-- what is searched: a table within its ranges, whose rows all stand in the image, a short word and a low limit
 pub record Ready (image w : List ℕ) (L : ℕ) : Type 0 where
   pub range : InRange (tableOf image)
+  pub long : lettersOf image + 38 + rowCount image * 8 ≤ length image
   pub short : length w ≤ 62
   pub low : L ≤ 31
 

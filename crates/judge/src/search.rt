@@ -3,9 +3,13 @@ use super::pending::SITUATIONS;
 use super::pending::mark;
 use super::pending::pick;
 use machine::Outcome;
-ghost use Prim.Native.Nat.{ℕ};
+use machine::Symbol;
+ghost use mathlib.Core.Path.{_≡_};
+ghost use Prim.Native.Nat.{ℕ, _+_, _*_, _≤_};
+ghost use lib.ListN.{length};
+ghost use Rattle.machine.specs.Code.{symbolIs};
 ghost use Rattle.judge.specs.Search.{Searched};
-ghost use Rattle.judge.specs.Inner.{RowOpen, RowFollowed, Waiting, Expanded, Unmarked};
+ghost use Rattle.judge.specs.Inner.{suited, RowOpen, RowHere, RowFollowed, Waiting, Expanded, Unmarked};
 
 // Follows row r of situation i: what it leads to within the limit is marked. The answer is whether a step above the limit was met, now or
 // before.
@@ -38,6 +42,47 @@ fn follow(
     }
 }
 
+fn two(high: u8, low: u8) -> usize
+    ensures { λ r. ⌜ r ≡ high * 256 + low ⌝ }
+{
+    (high as usize) * 256 + low as usize
+}
+
+// Whether the row that stands here leaves a state and fits a counter and what is seen: most rows do not, and no more of them is read.
+fn suits(image: &[u8], at: usize, state: usize, counter: usize, seen: Symbol) -> bool
+    requires { ⌜ at + 8 ≤ length (now image) ⌝ }
+    ensures { λ b. ⌜ b ≡ suited (now (image .entry)) at state counter (symbolIs seen) ⌝ }
+{
+    if two(image[at], image[at + 1]) == state {
+        if machine::counter_fits(image[at + 3], counter) {
+            return machine::symbol_fits(image, image[at + 2], seen);
+        }
+    }
+    false
+}
+
+// Follows row r, which stands here, of situation i, if it fits what is seen there.
+fn visit(
+    image: &[u8],
+    word: &[u8],
+    limit: usize,
+    i: usize,
+    r: usize,
+    at: usize,
+    seen: Symbol,
+    over: bool,
+    marks: &mut [u8],
+    hints: &mut [u64; 33],
+) -> bool
+    requires { ⌜ RowHere (now image) (now word) limit (now marks) over i r at (symbolIs seen) ⌝ }
+    ensures { λ b. ⌜ RowFollowed (now (image .entry)) (now (word .entry)) limit (now (marks .entry)) (now (marks .exit)) b i r ⌝ }
+{
+    if suits(image, at, i / 32 / 64, i % 32, seen) {
+        return follow(image, word, limit, i, r, over, marks, hints);
+    }
+    over
+}
+
 // Follows every row of situation i, which is pending.
 fn expand(
     image: &[u8],
@@ -53,9 +98,22 @@ fn expand(
 {
     bits::clear_bit(marks, i + SITUATIONS);
     let rows = table::row_count(image);
+    let first = table::letter_count(image) + 38;
+    let seen = machine::looked(word, i / 32 % 64);
     let mut past = over;
     for r in 0..rows {
-        past = follow(image, word, limit, i, r, past, marks, hints);
+        past = visit(
+            image,
+            word,
+            limit,
+            i,
+            r,
+            first + r * 8,
+            seen,
+            past,
+            marks,
+            hints,
+        );
     }
     past
 }

@@ -90,7 +90,7 @@ fn letter_fits(image: &[u8], code: u8, b: u8) -> bool
 }
 
 // Whether a row's symbol is what stands on a cell.
-fn symbol_fits(image: &[u8], code: u8, seen: Symbol) -> bool
+pub fn symbol_fits(image: &[u8], code: u8, seen: Symbol) -> bool
     ensures { λ r. ⌜ r ≡ symbolFits (tableOf (now (image .entry)) .alphabet) code (symbolIs seen) ⌝ }
 {
     if code == 18 {
@@ -104,7 +104,7 @@ fn symbol_fits(image: &[u8], code: u8, seen: Symbol) -> bool
 }
 
 // Whether a row's test fits the counter.
-fn counter_fits(test: u8, counter: usize) -> bool
+pub fn counter_fits(test: u8, counter: usize) -> bool
     ensures { λ r. ⌜ r ≡ counterFits test counter ⌝ }
 {
     if test == 2 {

@@ -1,4 +1,4 @@
--- The sum is that of the bits of the bytes passed, sixteen at a time. The measure is what is left of them. Assumes nothing.
+-- The sum is that of the bits of the bytes passed, 256 at a time. The measure is what is left of them. Assumes nothing.
 use Prim.Native.Nat.{_≤_, _+_, _-_}
 use native.Mathlib.Omega.{arith}
 use mathlib.Core.Path.{_≡_}

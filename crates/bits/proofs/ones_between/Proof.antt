@@ -15,18 +15,24 @@ Inv-loop m from to sum₀ i₀ sum i = (from ≤ i) × (i ≤ to) × OnesBetween
 abbrev μ-loop : tie.MeasureT-loop
 μ-loop m from to sum₀ i₀ sum i = to - i
 
+blank-requires : tie.Need-blank-requires Inv-loop μ-loop
+blank-requires c κs = (omega arith, omega arith)
+
+returns : tie.Need-returns Inv-loop μ-loop
+returns c = c .before .blank .ensures (c .if1 .taken)
+
 loop-holds : tie.Need-loop-holds Inv-loop μ-loop
 loop-holds c = (omega arith, omega arith, ones-none _ _)
 
 -- the sum with the next byte's ones
 next
-    : (c : tie.After-shared-slice-known Inv-loop μ-loop)
+    : (c : tie.After-shared-slice-known2 Inv-loop μ-loop)
     → OnesBetween
-    (c .before .before .before .args .m .now)
-    (c .before .before .before .args .from)
+    (c .before .before .before .before .before .before .args .m .now)
+    (c .before .before .before .before .before .before .args .from)
     (c .before .before .loop .i + 1)
-    (c .before .before .loop .sum + ones (getD (c .before .before .before .args .m .now) (c .before .before .loop .i) 0))
-next c = ones-more (c .shared-slice-known .given (c .before .before .loop .i) .fits) (c .before .before .loop .inv .2)
+    (c .before .before .loop .sum + ones (getD (c .before .before .before .before .before .before .args .m .now) (c .before .before .loop .i) 0))
+next c = ones-more (c .shared-slice-known2 .given (c .before .before .loop .i) .fits) (c .before .before .loop .inv .2)
 
 shared-slice-read-sum : tie.Need-shared-slice-read-sum Inv-loop μ-loop
 shared-slice-read-sum c = omega arith
@@ -46,8 +52,8 @@ loop-less c = omega arith
 loop-again : tie.Need-loop-again Inv-loop μ-loop
 loop-again c = (omega arith, omega arith, next c)
 
-returns : tie.Need-returns Inv-loop μ-loop
-returns c = ones-to (omega arith) (c .before .loop .inv .2)
+returns-2 : tie.Need-returns-2 Inv-loop μ-loop
+returns-2 c = ones-to (omega arith) (c .before .loop .inv .2)
 
 pub ones-between-spec : {M : Type 1} → statement M
 ones-between-spec =
@@ -55,6 +61,8 @@ ones-between-spec =
     (tie.spec
     Inv-loop
     μ-loop
+    blank-requires
+    returns
     loop-holds
     shared-slice-read-sum
     cast-sum
@@ -62,4 +70,4 @@ ones-between-spec =
     add-i
     loop-less
     loop-again
-    returns)
+    returns-2)
