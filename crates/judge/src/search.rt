@@ -99,7 +99,7 @@ fn expand(
     bits::clear_bit(marks, i + SITUATIONS);
     let rows = table::row_count(image);
     let first = table::letter_count(image) + 38;
-    let seen = machine::looked(word, i / 32 % 64);
+    let symbol = machine::head::seen(word, i / 32 % 64);
     let mut past = over;
     for r in 0..rows {
         past = visit(
@@ -109,7 +109,7 @@ fn expand(
             i,
             r,
             first + r * 8,
-            seen,
+            symbol,
             past,
             marks,
             hints,

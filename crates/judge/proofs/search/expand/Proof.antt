@@ -29,8 +29,8 @@ letter-count-requires c κs = search needs
 add-first : tie.Need-add-first Inv-loop μ-loop
 add-first c = omega (arith, c .letter-count .ensures, c .before .before .before .before .before .before .before .before .before .pre .between .ready .long)
 
-looked-requires : tie.Need-looked-requires Inv-loop μ-loop
-looked-requires c κs = search needs
+seen-requires : tie.Need-seen-requires Inv-loop μ-loop
+seen-requires c κs = search needs
 
 loop-holds : tie.Need-loop-holds Inv-loop μ-loop
 loop-holds c =
@@ -62,7 +62,7 @@ visit-requires c κs =
         few = omega (arith, c .before .before .loop-test .taken, c .before .before .before .before .before .before .row-count .ensures);
       };
       place = omega (arith, c .before .before .before .before .before .letter-count .ensures);
-      sees = c .before .before .before .before .looked .ensures;
+      sees = c .before .before .before .before .seen .ensures;
     }
 
 add-r : tie.Need-add-r Inv-loop μ-loop
@@ -98,7 +98,7 @@ expand-spec =
     row-count-requires
     letter-count-requires
     add-first
-    looked-requires
+    seen-requires
     loop-holds
     mul-visit
     add-visit
