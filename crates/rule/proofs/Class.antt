@@ -1,0 +1,185 @@
+-- Tokens by class: each reserved word and each sign is a mark of its own, and the rest are numbers, letters and others.
+-- A move goes by a token's class, so that what the bytes are is settled here.
+use Prim.Native.Nat.{ℕ}
+use mathlib.Core.Path.{_≡_, refl, sym, subst}
+use mathlib.Core.Bool.{Bool, true, false}
+use mathlib.Core.List.{List, [], _∷_}
+use lib.Dec.{T}
+use Rattle.text.specs.Token as Token
+use Rattle.text.specs.Token.{Token, word, sign, w, s}
+use Rattle.text.proofs.Same.{sameToken, same-token}
+
+-- the reserved words, and then the signs
+pub data Mark : Type 0 where
+  alphabet decrOnZero isTrue isFalse twoc string : Mark
+  move goto lend rend c accept reject if else while choose branch also read : Mark
+  equals same differs not and or plusPlus minusMinus plusEquals minusEquals minus : Mark
+  opens closes begins ends openList closeList comma semicolon : Mark
+
+abbrev pub spell : Mark → Token
+spell alphabet = w "alphabet"
+spell decrOnZero = w "decr_on_zero"
+spell isTrue = w "true"
+spell isFalse = w "false"
+spell twoc = w "twoc"
+spell string = w "string"
+spell move = w "move"
+spell goto = w "goto"
+spell lend = w "lend"
+spell rend = w "rend"
+spell c = w "c"
+spell accept = w "accept"
+spell reject = w "reject"
+spell if = w "if"
+spell else = w "else"
+spell while = w "while"
+spell choose = w "choose"
+spell branch = w "branch"
+spell also = w "also"
+spell read = w "read"
+spell equals = s "="
+spell same = s "=="
+spell differs = s "!="
+spell not = s "!"
+spell and = s "&&"
+spell or = s "||"
+spell plusPlus = s "++"
+spell minusMinus = s "--"
+spell plusEquals = s "+="
+spell minusEquals = s "-="
+spell minus = s "-"
+spell opens = s "("
+spell closes = s ")"
+spell begins = s "{"
+spell ends = s "}"
+spell openList = s "["
+spell closeList = s "]"
+spell comma = s ","
+spell semicolon = s ";"
+
+abbrev words : List Mark
+words =
+    alphabet
+    ∷ decrOnZero
+    ∷ isTrue
+    ∷ isFalse
+    ∷ twoc
+    ∷ string
+    ∷ move
+    ∷ goto
+    ∷ lend
+    ∷ rend
+    ∷ c
+    ∷ accept
+    ∷ reject
+    ∷ if
+    ∷ else
+    ∷ while
+    ∷ choose
+    ∷ branch
+    ∷ also
+    ∷ read
+    ∷ []
+
+abbrev signs : List Mark
+signs =
+    equals
+    ∷ same
+    ∷ differs
+    ∷ not
+    ∷ and
+    ∷ or
+    ∷ plusPlus
+    ∷ minusMinus
+    ∷ plusEquals
+    ∷ minusEquals
+    ∷ minus
+    ∷ opens
+    ∷ closes
+    ∷ begins
+    ∷ ends
+    ∷ openList
+    ∷ closeList
+    ∷ comma
+    ∷ semicolon
+    ∷ []
+
+pub data Class : Type 0 where
+  mark : Mark → Class
+  number : List ℕ → Class
+  letter : ℕ → Class
+  other : Token → Class
+
+abbrev pub tokenOf : Class → Token
+tokenOf (mark m) = spell m
+tokenOf (number n) = Token.number n
+tokenOf (letter b) = Token.letter b
+tokenOf (other t) = t
+
+-- the mark among these that is written so
+abbrev pub find : Token → List Mark → Class
+find t [] = other t
+find t (m ∷ ms) = elim (sameToken t (spell m)) [ true ↦ mark m | false ↦ find t ms ]
+
+abbrev pub classify : Token → Class
+classify (word a) = find (word a) words
+classify (Token.number n) = number n
+classify (Token.letter b) = letter b
+classify (sign a) = find (sign a) signs
+
+find-token : (t : Token) (ms : List Mark) → tokenOf (find t ms) ≡ t
+find-token t [] = refl
+find-token t (m ∷ ms) = go (sameToken t (spell m)) refl (find-token t ms)
+  where
+    go : (b : Bool) → sameToken t (spell m) ≡ b → tokenOf (find t ms) ≡ t → tokenOf (elim b [ true ↦ mark m | false ↦ find t ms ]) ≡ t
+    go true e h = sym (same-token t (spell m) (subst T (sym e) tt))
+    go false e h = h
+
+-- a token's class says which token it is
+pub token-of-class : (t : Token) → tokenOf (classify t) ≡ t
+token-of-class (word a) = find-token (word a) words
+token-of-class (Token.number n) = refl
+token-of-class (Token.letter b) = refl
+token-of-class (sign a) = find-token (sign a) signs
+
+-- a mark, as it is written, is of its own class
+pub class-of-mark : (m : Mark) → classify (spell m) ≡ mark m
+class-of-mark alphabet = refl
+class-of-mark decrOnZero = refl
+class-of-mark isTrue = refl
+class-of-mark isFalse = refl
+class-of-mark twoc = refl
+class-of-mark string = refl
+class-of-mark move = refl
+class-of-mark goto = refl
+class-of-mark lend = refl
+class-of-mark rend = refl
+class-of-mark c = refl
+class-of-mark accept = refl
+class-of-mark reject = refl
+class-of-mark if = refl
+class-of-mark else = refl
+class-of-mark while = refl
+class-of-mark choose = refl
+class-of-mark branch = refl
+class-of-mark also = refl
+class-of-mark read = refl
+class-of-mark equals = refl
+class-of-mark same = refl
+class-of-mark differs = refl
+class-of-mark not = refl
+class-of-mark and = refl
+class-of-mark or = refl
+class-of-mark plusPlus = refl
+class-of-mark minusMinus = refl
+class-of-mark plusEquals = refl
+class-of-mark minusEquals = refl
+class-of-mark minus = refl
+class-of-mark opens = refl
+class-of-mark closes = refl
+class-of-mark begins = refl
+class-of-mark ends = refl
+class-of-mark openList = refl
+class-of-mark closeList = refl
+class-of-mark comma = refl
+class-of-mark semicolon = refl
