@@ -29,8 +29,8 @@ use Rattle.rule.specs.Grammar.{
   IsSettings,
   IsProgram,
 }
-use Rattle.rule.proofs.Machine as Machine
-use Rattle.rule.proofs.Machine.{Symbol, Stack, Value, Values, start, operand, tail, block, statements, orElse, arms, orAlso}
+use Rattle.rule.specs.Inside.Machine as Machine
+use Rattle.rule.specs.Inside.Machine.{Symbol, Stack, Value, Values, start, operand, tail, block, statements, orElse, arms, orAlso}
 use Rattle.rule.proofs.Steps.{Ts, Far, State, state, eat}
 use Rattle.rule.proofs.Far.{
   counts,

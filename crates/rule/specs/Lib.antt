@@ -4,3 +4,4 @@ pub mod Grammar
 pub mod Limits
 pub mod Faults
 pub mod Meaning
+pub mod Inside

@@ -1,1 +1,2 @@
 // Reading a rule: its grammar, its limits, and what it means.
+mod answers;
