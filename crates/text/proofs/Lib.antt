@@ -9,3 +9,7 @@ pub mod Rising
 pub mod Sorting
 pub mod Named
 pub mod Signed
+pub mod Comes
+pub mod Standing
+pub mod Once
+pub mod Follow
