@@ -4,3 +4,8 @@ pub mod Within
 pub mod Steps
 pub mod Far
 pub mod Complete
+pub mod Front
+pub mod Moves
+pub mod Arms
+pub mod Missed
+pub mod Exact
