@@ -9,3 +9,5 @@ pub mod Moves
 pub mod Arms
 pub mod Missed
 pub mod Exact
+pub mod Alphabet
+pub mod Digits

@@ -3,7 +3,7 @@ use Prim.Native.Nat.{ℕ, _+_, _*_, _≤_}
 use mathlib.Core.Path.{_≡_}
 use mathlib.Core.Option.{Option, none, some}
 use mathlib.Core.List.{List, [], _∷_, _++_}
-use lib.ListN.{length, drop}
+use lib.ListN.{length, take, drop}
 use Rattle.text.specs.Tokens.{Placed, Ending, Tokens}
 use Rattle.text.specs.declared.Word.{Word}
 use Rattle.text.specs.declared.Word.the-variants as Word
@@ -17,6 +17,7 @@ use Rattle.rule.specs.declared.answers.Counts.{Counts}
 use Rattle.rule.specs.declared.answers.Refusal.{Refusal}
 use Rattle.rule.specs.declared.answers.Read.{Read}
 use Rattle.rule.specs.declared.answers.Read.the-variants.{Went, Refused}
+use Rattle.rule.specs.declared.letters.Letters.{Letters}
 
 -- the mark that a sign is
 abbrev pub signMark : Sign → Mark
@@ -96,3 +97,11 @@ Right text s x alphabet (Refused r) = Stops text s r
 -- from a spot the machine does what is answered: it comes to where it expects these symbols, with this alphabet, or refuses
 pub record Answers (text : List ℕ) (s : Spot) (x : Stack) (alphabet : List ℕ) (r : Read) : Type 0 where
   pub right : Right text s x alphabet r
+
+-- the letters so far, and no more than there is room for
+abbrev pub alphabetOf : Letters → List ℕ
+alphabetOf l = take (l .count) (l .bytes)
+
+pub record Sized (l : Letters) : Type 0 where
+  pub few : l .count ≤ 16
+  pub room : length (l .bytes) ≡ 16
