@@ -23,12 +23,12 @@ use Rattle.text.proofs.Same.{sameToken, same-token}
 use Rattle.rule.specs.Inside.Class as Class
 use Rattle.rule.specs.Inside.Class.{Mark, spell, Class, mark, other, tokenOf, classify, token-of-class, class-of-mark}
 use Rattle.rule.specs.Inside.Machine.{Symbol, exact, Stack, Totals, Move, choices, pick}
-use Rattle.rule.specs.Inside.Answers.{refusalOf, spot, totals, Ready, Answers}
+use Rattle.rule.specs.Inside.Answers.{Front, refusalOf, spot, totals, Ready, Answers}
 use Rattle.rule.specs.declared.answers.Counts.{Counts}
 use Rattle.rule.specs.declared.answers.Refusal.{Refusal}
 use Rattle.rule.specs.declared.answers.Read.the-variants.{Went, Refused}
 use Rattle.rule.proofs.Arms.{passing}
-use Rattle.rule.proofs.Front.{Front, front-sign}
+use Rattle.rule.proofs.Front.{front-sign}
 use Rattle.rule.proofs.Moves.{done, step}
 use Rattle.rule.proofs.Missed.{sort, refuses, refused}
 

@@ -13,24 +13,14 @@ use Rattle.text.specs.Tokens.{Placed, _at_, Ending, Tokens}
 use Rattle.text.specs.First.{Name, reserved, unreserved, name, IsNamed, written, part, Next, First}
 use Rattle.text.specs.declared.Word.{Word}
 use Rattle.text.specs.declared.Word.the-variants as Word
+use Rattle.text.specs.declared.Sign.{Sign}
 use Rattle.text.specs.declared.Token.{Token}
 use Rattle.text.specs.declared.Token.the-variants as Token
 use Rattle.text.proofs.Same.{sameToken, same-token}
 use Rattle.text.proofs.Follow.{first-onward}
 use Rattle.rule.specs.Inside.Class as Class
 use Rattle.rule.specs.Inside.Class.{Mark, spell, Class, mark, other, find, classify}
-
--- a token of this class stands at a place, the first from a byte on, and the text goes on behind it
-pub record Front (text : List ℕ) (from : ℕ) (k : Class) (place end : ℕ) : Type 0 where
-  pub token : Spelt.Token
-  pub after : List Placed
-  pub ending : Ending
-  pub all : Tokens from (drop from text) ((token at place) ∷ after) ending
-  pub rest : Tokens end (drop end text) after ending
-  pub is : classify token ≡ k
-  pub back : from ≤ place
-  pub some : place < end
-  pub within : end ≤ length text
+use Rattle.rule.specs.Inside.Answers.{Front}
 
 -- the class of a word that is written so
 abbrev pub named : Name → List ℕ → Class
@@ -150,10 +140,25 @@ module _ {text : List ℕ} {from : ℕ} where
       let g = subst (λ (t : Token). First text from t) e f in
       next-front (g .all) (g .begins) refl (first-onward g)
 
-  pub front-sign : {p q : ℕ} {x : _} {t : Token}
+  pub front-sign : {p q : ℕ} {x : Sign} {t : Token}
       → First text from t
       → t ≡ Token.Sign p q x
       → Front text from (classify (sign (written x))) p q
   front-sign f e =
       let g = subst (λ (t : Token). First text from t) e f in
       next-front (g .all) (g .begins) refl (first-onward g)
+
+  -- and which word or sign it is
+  pub told-word : {p q : ℕ} {x y : Word} {t : Token}
+      → First text from t
+      → t ≡ Token.Word p q x
+      → x ≡ y
+      → Front text from (named (name y) (part text p q)) p q
+  told-word {p} {q} f e same = front-word f (e ∙ ap (λ (x : Word). Token.Word p q x) same)
+
+  pub told-sign : {p q : ℕ} {x y : Sign} {t : Token}
+      → First text from t
+      → t ≡ Token.Sign p q x
+      → x ≡ y
+      → Front text from (classify (sign (written y))) p q
+  told-sign {p} {q} f e same = front-sign f (e ∙ ap (λ (x : Sign). Token.Sign p q x) same)

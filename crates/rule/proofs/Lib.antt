@@ -11,3 +11,4 @@ pub mod Missed
 pub mod Exact
 pub mod Alphabet
 pub mod Digits
+pub mod Tested

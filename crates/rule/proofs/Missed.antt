@@ -27,11 +27,11 @@ use Rattle.text.proofs.Follow.{placeOf}
 use Rattle.rule.specs.Inside.Class as Class
 use Rattle.rule.specs.Inside.Class.{spell, Class, mark, other, tokenOf, classify, token-of-class}
 use Rattle.rule.specs.Inside.Machine.{Symbol, Stack, Value, Totals, Move, Choice, on, onNumber, onLetter, choices, take, pick, run}
-use Rattle.rule.specs.Inside.Answers.{refusalOf, spot, Stops, Answers}
+use Rattle.rule.specs.Inside.Answers.{Front, refusalOf, spot, Stops, Answers}
 use Rattle.rule.specs.declared.answers.Refusal.{Refusal}
 use Rattle.rule.specs.declared.answers.Read.the-variants.{Went, Refused}
 use Rattle.rule.proofs.Arms.{passing, left-passes, valuesLeft, value-left}
-use Rattle.rule.proofs.Front.{Front, named, classOf, front-word, front-number, front-letter, front-sign}
+use Rattle.rule.proofs.Front.{named, classOf, front-word, front-number, front-letter, front-sign}
 use Rattle.rule.proofs.Moves.{misses, under-stops}
 
 -- the sort of a token, by the number that its variant has in the code
@@ -98,17 +98,18 @@ sort-named (reserved b) l = ap sort (token-of-class (word b))
 sort-named unreserved l = refl
 
 -- the sorts of tokens, the signs and the words that a symbol does not take
-abbrev sortsLeft : Totals → Symbol → Token → List ℕ
+abbrev pub sortsLeft : Totals → Symbol → Token → List ℕ
 sortsLeft t x k = passing (untaken (choices t (placeOf k) x)) 0 6
 
-abbrev missesSign : Totals → Symbol → ℕ → Sign → Bool
+abbrev pub missesSign : Totals → Symbol → ℕ → Sign → Bool
 missesSign t x p s = isNone (pick (choices t p x) (classify (sign (written s))))
 
-abbrev missesWord : Totals → Symbol → ℕ → List ℕ → Word → Bool
+abbrev pub missesWord : Totals → Symbol → ℕ → List ℕ → Word → Bool
 missesWord t x p l w = isNone (pick (choices t p x) (named (name w) l))
 
+-- no choice takes it, since nothing of its sort is taken, or of its sort another token only
 module _ (text : List ℕ) (x : Symbol) (t : Totals) where
-  missed-sort : (k : Token) → OneOf (sortsLeft t x k) (tagOf token-type.the-type k) → Misses text t x k
+  pub missed-sort : (k : Token) → OneOf (sortsLeft t x k) (tagOf token-type.the-type k) → Misses text t x k
   missed-sort (Token.Word p q w) e =
       untaken-none (choices t p x) (classOf text (Token.Word p q w)) (rw (sort-named (name w) (part text p q)) (left-passes (untaken (choices t p x)) 0 6 0 e))
   missed-sort (Token.Number p q) e = untaken-none (choices t p x) (Class.number (part text p q)) (left-passes (untaken (choices t p x)) 0 6 1 e)
@@ -118,8 +119,19 @@ module _ (text : List ℕ) (x : Symbol) (t : Totals) where
   missed-sort (Token.End p) e = tt
   missed-sort (Token.Broken p) e = tt
 
+  pub missed-sign : (p q : ℕ) (s : Sign)
+      → OneOf (valuesLeft sign-type.enum (missesSign t x p)) (tagOf sign-type.the-type s)
+      → Misses text t x (Token.Sign p q s)
+  missed-sign p q s e = is-none (pick (choices t p x) (classify (sign (written s)))) (value-left sign-type.enum (missesSign t x p) s tt e)
+
+  pub missed-word : (p q : ℕ) (v : Word)
+      → OneOf (valuesLeft word-type.enum (missesWord t x p (part text p q))) (tagOf word-type.the-type v)
+      → Misses text t x (Token.Word p q v)
+  missed-word p q v e =
+      is-none (pick (choices t p x) (named (name v) (part text p q))) (value-left word-type.enum (missesWord t x p (part text p q)) v tt e)
+
 module _ {text : List ℕ} {from : ℕ} {x : Symbol} {t : Totals} where
-  missed : (k : Token) → First text from k → Misses text t x k → Stops text (spot from (x ∷ []) t) (refusalOf k)
+  pub missed : (k : Token) → First text from k → Misses text t x k → Stops text (spot from (x ∷ []) t) (refusalOf k)
   unfolding run
   missed (Token.Word p q w) f h = misses x t (front-word f refl) h
   missed (Token.Number p q) f h = misses x t (front-number f refl) h
@@ -140,7 +152,6 @@ module _ {text : List ℕ} {from : ℕ} {x : Symbol} {t : Totals} where
         same = λ st. rw (f .begins .none, f .begins .ended, run);
       }
 
-  -- a refusal of what comes first: nothing of its sort is taken, or of its sort another token only
   module _ {w y : Stack} {b : List ℕ} {k : Token} {r : Refusal} (f : First text from k) where
     pub refused : r ≡ refusalOf k → Misses text t x k → Answers text (spot from (x ∷ w) t) y b (Refused r)
     refused right h = record { right = rw right (under-stops w (missed k f h)) }
@@ -156,15 +167,11 @@ module _ {text : List ℕ} {from : ℕ} {x : Symbol} {t : Totals} where
         → OneOf (valuesLeft sign-type.enum (missesSign t x p)) (tagOf sign-type.the-type s)
         → r ≡ record { number = 4; place = p }
         → Answers text (spot from (x ∷ w) t) y b (Refused r)
-    refuses-sign {s} e h right =
-        let none-left = is-none (pick (choices t p x) (classify (sign (written s)))) (value-left sign-type.enum (missesSign t x p) s tt h) in
-        refused (subst (λ (u : Token). First text from u) e f) right none-left
+    refuses-sign {s} e h right = refused (subst (λ (u : Token). First text from u) e f) right (missed-sign text x t p q s h)
 
     pub refuses-word : {v : Word}
         → k ≡ Token.Word p q v
         → OneOf (valuesLeft word-type.enum (missesWord t x p (part text p q))) (tagOf word-type.the-type v)
         → r ≡ record { number = 4; place = p }
         → Answers text (spot from (x ∷ w) t) y b (Refused r)
-    refuses-word {v} e h right =
-        let none-left = is-none (pick (choices t p x) (named (name v) (part text p q))) (value-left word-type.enum (missesWord t x p (part text p q)) v tt h) in
-        refused (subst (λ (u : Token). First text from u) e f) right none-left
+    refuses-word {v} e h right = refused (subst (λ (u : Token). First text from u) e f) right (missed-word text x t p q v h)

@@ -13,13 +13,12 @@ use Rattle.text.proofs.Scan.{scanFrom}
 use Rattle.text.proofs.Tokens.{scanFrom-right, tokens-once}
 use Rattle.rule.specs.Inside.Class.{Class, classify}
 use Rattle.rule.specs.Inside.Machine.{Symbol, Stack, Value, Totals, counted, Move, choices, pick, Outcome, refused, move, run}
-use Rattle.rule.specs.Inside.Answers.{Spot, spot, totals, Comes, Stops, Ready, Further, Answers}
+use Rattle.rule.specs.Inside.Answers.{Front, Spot, spot, totals, Comes, Stops, Ready, Further, Answers}
 use Rattle.rule.specs.declared.answers.Counts.{Counts}
 use Rattle.rule.specs.declared.answers.Refusal.{Refusal}
 use Rattle.rule.specs.declared.answers.Read.{Read}
 use Rattle.rule.specs.declared.answers.Read.the-variants.{Went, Refused}
 use Rattle.rule.proofs.answers.Read.{the-type}
-use Rattle.rule.proofs.Front.{Front}
 
 -- the tokens from any byte of a text on
 tokens-there : (text : List ℕ) (from : ℕ) → (ts : List Placed) × (e : Ending) × Tokens from (drop from text) ts e
@@ -72,7 +71,7 @@ module _ {text : List ℕ} where
   -- more is expected behind
   under : {s z : Spot} (w : Stack)
       → Comes text s z
-      → Comes text (spot (s .at) (s .expects ++ w) (s .totals)) (spot (z .at) (z .expects ++ w) (z .totals))
+      → Comes text (spot (s .from) (s .expects ++ w) (s .totals)) (spot (z .from) (z .expects ++ w) (z .totals))
   under {s} {z} w h =
       record {
         before = h .before;
@@ -84,7 +83,7 @@ module _ {text : List ℕ} where
         forth = h .forth;
       }
 
-  pub under-stops : {s : Spot} {r : Refusal} (w : Stack) → Stops text s r → Stops text (spot (s .at) (s .expects ++ w) (s .totals)) r
+  pub under-stops : {s : Spot} {r : Refusal} (w : Stack) → Stops text s r → Stops text (spot (s .from) (s .expects ++ w) (s .totals)) r
   under-stops {s} w h =
       record {
         before = h .before;
@@ -107,7 +106,7 @@ module _ {text : List ℕ} where
         forth = omega (arith, g .forth, h .forth);
       }
 
-  comes-stops : {s y : Spot} {r : Refusal} → Comes text s y → Stops text y r → Stops text s r
+  pub comes-stops : {s y : Spot} {r : Refusal} → Comes text s y → Stops text y r → Stops text s r
   comes-stops {s} {y} g h =
       let once = tokens-once (g .there) (h .here) in
       record {
@@ -119,7 +118,7 @@ module _ {text : List ℕ} where
 
   stand : (s : Spot) → Comes text s s
   stand s =
-      let there = tokens-there text (s .at) in
+      let there = tokens-there text (s .from) in
       record {
         before = there .0;
         after = there .0;

@@ -2,3 +2,4 @@
 pub mod Class
 pub mod Machine
 pub mod Answers
+pub mod Atoms

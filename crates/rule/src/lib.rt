@@ -1,4 +1,6 @@
 // Reading a rule: its grammar, its limits, and what it means.
 mod answers;
+mod atoms;
+mod conditions;
 mod letters;
 mod numbers;
