@@ -1,5 +1,6 @@
 -- What the rest of a match knows: which numbers are left, by a test that the others do not pass.
 use Prim.Native.Nat.{ℕ, zero, suc}
+use native.Mathlib.Omega.{arith}
 use mathlib.Core.Path.{_≡_, refl, sym, ap, _∙_, subst}
 use mathlib.Core.Bool.{Bool, true, false, _&&_}
 use mathlib.Core.Logic.{inl, inr}
@@ -8,7 +9,7 @@ use denote.Struct.Field.{Field}
 use lib.ListN.{length}
 use lib.Dec.{T}
 use denote.Enum.Enum.{tag}
-use denote.Enum.Declared.{Record, Choice, rowss, intoss, declared, tagOf}
+use denote.Enum.Declared.{Record, Choice, rowss, intoss, values-one, declared, tagOf}
 use types.Run.{OneOf}
 use Rattle.bits.proofs.Tests.{every, and-of}
 use Rattle.text.proofs.Runs.{T-true}
@@ -65,3 +66,18 @@ module _ (N : Record) (test : N .D → Bool) where
       let numbered = test-at (N .parts) (λ c. test (N .make c)) (N .as-values d) t in
       let passes = left-passes (testAt (N .parts) (λ c. test (N .make c))) 0 (length (N .parts)) (tagOf (declared N) d) e in
       ap test (sym (N .eta d)) ∙ sym numbered ∙ T-true (testAt (N .parts) (λ c. test (N .make c)) (tagOf (declared N) d)) passes
+
+same-number : (Fss : List (List Field)) (c d : Choice Fss)
+    → T (bare Fss)
+    → tag (rowss Fss) (intoss Fss c) ≡ tag (rowss Fss) (intoss Fss d)
+    → c ≡ d
+same-number [] c d t e = absurd c
+same-number ([] ∷ Fss) (inl x) (inl y) t e = refl
+same-number ([] ∷ Fss) (inl x) (inr d) t e = absurd (omega arith)
+same-number ([] ∷ Fss) (inr c) (inl y) t e = absurd (omega arith)
+same-number ([] ∷ Fss) (inr c) (inr d) t e = ap inr (same-number Fss c d t (omega arith))
+same-number ((F ∷ Fs) ∷ Fss) c d t e = absurd t
+
+-- a value by its number
+pub by-number : (N : Record) (d e : N .D) → T (bare (N .parts)) → tagOf (declared N) d ≡ tagOf (declared N) e → d ≡ e
+by-number N d e t h = values-one N d e (same-number (N .parts) (N .as-values d) (N .as-values e) t h)

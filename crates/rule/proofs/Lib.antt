@@ -12,3 +12,4 @@ pub mod Exact
 pub mod Alphabet
 pub mod Digits
 pub mod Tested
+pub mod Operators

@@ -6,7 +6,6 @@ use mathlib.Core.Bool.{Bool, true, false}
 use mathlib.Core.Option.{Option, none, some}
 use mathlib.Core.List.{List, [], _∷_, _++_, append-assoc}
 use lib.ListN.{length, drop}
-use denote.Enum.Declared.{tagOf}
 use Rattle.text.specs.Token as Spelt
 use Rattle.text.specs.Tokens.{Placed, _at_, Ending, Tokens}
 use Rattle.text.proofs.Scan.{scanFrom}
@@ -18,7 +17,6 @@ use Rattle.rule.specs.declared.answers.Counts.{Counts}
 use Rattle.rule.specs.declared.answers.Refusal.{Refusal}
 use Rattle.rule.specs.declared.answers.Read.{Read}
 use Rattle.rule.specs.declared.answers.Read.the-variants.{Went, Refused}
-use Rattle.rule.proofs.answers.Read.{the-type}
 
 -- the tokens from any byte of a text on
 tokens-there : (text : List ℕ) (from : ℕ) → (ts : List Placed) × (e : Ending) × Tokens from (drop from text) ts e
@@ -116,7 +114,7 @@ module _ {text : List ℕ} where
         same = λ st. g .same st ∙ rw (once .0, once .1) (h .same st);
       }
 
-  stand : (s : Spot) → Comes text s s
+  pub stand : (s : Spot) → Comes text s s
   stand s =
       let there = tokens-there text (s .from) in
       record {
@@ -128,6 +126,31 @@ module _ {text : List ℕ} where
         same = λ st. refl;
         forth = omega arith;
       }
+
+  -- a token taken
+  pub moves : {from p q : ℕ} {k : Class} {x : Symbol} {t : Totals} {m : Move (Value x)} {w : Stack} {n : Totals}
+      → Front text from k p q
+      → pick (choices t p x) k ≡ some m
+      → m .breaks ≡ false
+      → m .totals ≡ n
+      → Comes text (spot from (x ∷ w) t) (spot q (m .push ++ w) n)
+  moves {from} {q = q} {x = x} {t = t} {m = m} {w = w} f h l e =
+      subst (λ (n : Totals). Comes text (spot from (x ∷ w) t) (spot q (m .push ++ w) n)) e (under w (goes x t f h l))
+
+  -- what was called has read something
+  pub went : {from q : ℕ} {x z : Stack} {t : Totals} {a : List ℕ} {u : Read} {n : Counts} (w : Stack)
+      → Answers text (spot from x t) z a u
+      → u ≡ Went q n
+      → Comes text (spot from (x ++ w) t) (spot q (z ++ w) (totals a n))
+  went {from} {x = x} {z = z} {t = t} {a = a} w h e =
+      under w (subst (λ (v : Read). Answers text (spot from x t) z a v) e h .right .comes)
+
+  -- and there is room there
+  pub went-ready : {s : Spot} {z : Stack} {a : List ℕ} {u : Read} {q : ℕ} {n : Counts} → Answers text s z a u → u ≡ Went q n → Ready text q n
+  went-ready {s} {z} {a} h e = subst (λ (v : Read). Answers text s z a v) e h .right .ready
+
+  pub went-forth : {s : Spot} {z : Stack} {a : List ℕ} {u : Read} {q : ℕ} {n : Counts} → Answers text s z a u → u ≡ Went q n → s .from ≤ q
+  went-forth {s} {z} {a} h e = subst (λ (v : Read). Answers text s z a v) e h .right .comes .forth
 
   module _ {y : Stack} {b : List ℕ} where
     -- what is answered from a spot is answered from where the machine comes to it
@@ -148,8 +171,7 @@ module _ {text : List ℕ} where
         → m .totals ≡ n
         → Answers text (spot q (m .push ++ w) n) y b r
         → Answers text (spot from (x ∷ w) t) y b r
-    step {q = q} {x = x} {t = t} {m = m} {w = w} {r = r} f h l e g =
-        onward (under w (goes x t f h l)) (subst (λ (n : Totals). Answers text (spot q (m .push ++ w) n) y b r) (sym e) g)
+    step f h l e g = onward (moves f h l e) g
 
     -- what was called has read something, and the rest
     pub then : {from q : ℕ} {x z : Stack} {t : Totals} {a : List ℕ} {r u : Read} {n : Counts} (w : Stack)
@@ -157,16 +179,16 @@ module _ {text : List ℕ} where
         → u ≡ Went q n
         → Answers text (spot q (z ++ w) (totals a n)) y b r
         → Answers text (spot from (x ++ w) t) y b r
-    then {from} {x = x} {z = z} {t = t} {a = a} {u = u} w h e g =
-        onward (under w (subst (λ (v : Read). Answers text (spot from x t) z a v) e h .right .comes)) g
+    then w h e g = onward (went w h e) g
 
     -- what was called has refused, and so does the caller
-    pub stop : {from : ℕ} {x z : Stack} {t : Totals} {a : List ℕ} {r : Read} (w : Stack)
-        → Answers text (spot from x t) z a r
-        → tagOf the-type r ≡ 1
-        → Answers text (spot from (x ++ w) t) y b r
-    stop {r = Went q n} w h e = absurd (omega arith)
-    stop {r = Refused r} w h e = record { right = under-stops w (h .right) }
+    pub stop : {from : ℕ} {x z : Stack} {t : Totals} {a : List ℕ} {u : Read} {r : Refusal} (w : Stack)
+        → Answers text (spot from x t) z a u
+        → u ≡ Refused r
+        → Answers text (spot from (x ++ w) t) y b u
+    stop {from} {x = x} {z = z} {t = t} {a = a} w h e =
+        let stopped = subst (λ (v : Read). Answers text (spot from x t) z a v) e h .right in
+        subst (λ (v : Read). Answers text (spot from (x ++ w) t) y b v) (sym e) (record { right = under-stops w stopped })
 
     -- a limit is broken
     pub break : {from p q : ℕ} {k : Class} {x : Symbol} {t : Totals} {m : Move (Value x)} {w : Stack}
@@ -191,5 +213,19 @@ ready-more f h s r =
       rows = omega (arith, f .back, f .some, h .rows);
     }
 
+pub ready-plus : {text : List ℕ} {from p q : ℕ} {k : Class} {n l : Counts} {i j : ℕ}
+    → Front text from k p q
+    → Ready text from n
+    → l ≡ record { states = n .states + i; rows = n .rows + j }
+    → i ≤ 3
+    → j ≤ 18
+    → Ready text q l
+ready-plus f h e s r =
+    ready-more f h (omega (arith, ap (λ (l : Counts). l .states) e)) (omega (arith, ap (λ (l : Counts). l .rows) e))
+
 pub ready-on : {text : List ℕ} {from p q : ℕ} {k : Class} {n : Counts} → Front text from k p q → Ready text from n → Ready text q n
 ready-on f h = ready-more f h (omega arith) (omega arith)
+
+-- totals with what a move counts
+pub counts-plus : {l k : Counts} (a : List ℕ) → l ≡ k → totals a k ≡ totals a l
+counts-plus a e = ap (totals a) (sym e)

@@ -4,7 +4,7 @@ use native.Mathlib.Omega.{arith}
 use mathlib.Core.Path.{_≡_, refl, sym, ap, _∙_, subst}
 use mathlib.Core.Bool.{Bool, true, false, not, true≢false}
 use mathlib.Core.Option.{Option, none, some}
-use mathlib.Core.List.{List, [], _∷_, _++_}
+use mathlib.Core.List.{List, [], _∷_, _++_, cons≢nil}
 use lib.ListN.{length, drop}
 use denote.Enum.Declared.{tagOf}
 use types.Run.{OneOf, hit, miss}
@@ -28,16 +28,19 @@ use Rattle.rule.specs.Grammar.{Ts, IsSought, IsAtom}
 use Rattle.rule.specs.Limits.{Fault, faultIf, isIn, soughtFaults, numberFaults, atomFaults}
 use Rattle.rule.specs.Inside.Class as Class
 use Rattle.rule.specs.Inside.Class.{Class, tokenOf, classify, token-of-class}
-use Rattle.rule.specs.Inside.Machine.{Symbol, number, sought, Stack, Value, Totals, Move, outside, choices, pick}
-use Rattle.rule.specs.Inside.Answers.{Front, refusalOf, spot, Stops}
+use Rattle.rule.specs.Inside.Machine.{Symbol, number, operand, sought, Stack, Value, Totals, counted, Move, outside, choices, pick, move, run}
+use Rattle.rule.specs.Inside.Answers.{Front, refusalOf, spot, totals, Stops, Ready, Answers}
 use Rattle.rule.specs.Inside.Atoms.{symbolOf, atomOf, rowsOf, compared, behind, isSign, NoSign, IsFound, Tests}
 use Rattle.rule.specs.declared.answers.Refusal.{Refusal}
+use Rattle.rule.specs.declared.answers.Counts.{Counts}
+use Rattle.rule.specs.declared.answers.Read.the-variants as Read
+use Rattle.rule.specs.declared.answers.Read.the-variants.{Went}
 use Rattle.rule.specs.declared.atoms.Symbol.the-variants as Sought
 use Rattle.rule.specs.declared.atoms.Atom.{Atom}
 use Rattle.rule.specs.declared.atoms.Atom.the-variants as Atom
 use Rattle.rule.specs.declared.atoms.AtomRead.{AtomRead}
 use Rattle.rule.specs.declared.atoms.AtomRead.the-variants.{Found, Refused}
-use Rattle.rule.proofs.Moves.{goes, breaks, comes-stops}
+use Rattle.rule.proofs.Moves.{goes, breaks, comes-stops, counts-plus}
 use Rattle.rule.proofs.Arms.{valuesLeft}
 use Rattle.rule.proofs.Missed.{Misses, missed, sortsLeft, missesSign, missesWord, missed-sort, missed-sign, missed-word}
 
@@ -246,3 +249,80 @@ nor-sign {k = k} h f e = go k (ap isSign (first-once f (h .first)) ∙ h .none) 
     go (Token.Sign p q x) h e = absurd (true≢false h)
     go (Token.End p) h e = hit (1 ∷ 2 ∷ 4 ∷ 5 ∷ []) 4 tt
     go (Token.Broken p) h e = hit (1 ∷ 2 ∷ 4 ∷ 5 ∷ []) 5 tt
+
+fault-none : (b : Bool) (n p : ℕ) → faultIf b n p ≡ [] → b ≡ false
+fault-none true n p e = absurd (cons≢nil e)
+fault-none false n p e = refl
+
+module _ (t : Totals) (st : Stack) (e : Ending) where
+  sought-runs : {ts us : Ts} {x : Tree.Sought}
+      → IsSought ts x us
+      → soughtFaults (t .alphabet) x ≡ []
+      → run (sought ∷ st) t ts e ≡ run st t us e
+  unfolding run move soughtFaults
+  sought-runs (Grammar.aLetter {p = p} {b = b}) h = rw (fault-none (not (isIn b (t .alphabet))) 6 p h, run)
+  sought-runs Grammar.lend h = refl
+  sought-runs Grammar.rend h = refl
+
+  zero-runs : (n : List ℕ) (p : ℕ) (ts : Ts)
+      → numberFaults 0 (record { digits = n; place = p }) ≡ []
+      → run (number 0 ∷ st) t ((Spelt.number n at p) ∷ ts) e ≡ run st t ts e
+  unfolding run move numberFaults
+  zero-runs n p ts h = rw (fault-none (outside 0 n) 7 p h, run)
+
+pub rows-most : (k : ℕ) (atom : Atom) → rowsOf k atom ≤ k + 2
+rows-most k (Atom.Read equal x) = omega arith
+rows-most k (Atom.Counter zero) = omega arith
+
+-- the machine takes an atom that breaks no limit, and counts its rows
+atom-runs : (n : ℕ) (t : Totals) (st : Stack) (e : Ending) {ts us : Ts} {x : Tree.Atom}
+    → IsAtom ts x us
+    → atomFaults (t .alphabet) x ≡ []
+    → run (operand n ∷ st) t ts e ≡ run st (counted 0 (rowsOf (length (t .alphabet)) (atomOf x)) t) us e
+unfolding run move atomFaults
+atom-runs n t st e (Grammar.readIs h) g = sought-runs (counted 0 (length (t .alphabet) + 2) t) st e h g
+atom-runs n t st e (Grammar.readIsNot h) g = sought-runs (counted 0 (length (t .alphabet) + 2) t) st e h g
+atom-runs n t st e (Grammar.counterIs {r = r} {n = l} {ts = ts}) g = zero-runs (counted 0 2 t) st e l r ts g
+atom-runs n t st e (Grammar.counterIsNot {r = r} {n = l} {ts = ts}) g = zero-runs (counted 0 2 t) st e l r ts g
+
+module _ {text : List ℕ} {from n : ℕ} {a : List ℕ} {r : AtomRead} {counts : Counts} (h : Tests text from a (λ ts. ts) (operand n) r) where
+  -- an operand that is an atom
+  pub atom-answers : {atom : Atom} {to : ℕ} {l : Counts} {rows : ℕ}
+      → r ≡ Found atom to
+      → Ready text from counts
+      → length a ≤ 16
+      → rows ≡ rowsOf (length a) atom
+      → l ≡ record { states = counts .states + 0; rows = counts .rows + rows }
+      → Answers text (spot from (operand n ∷ []) (totals a counts)) [] a (Went to l)
+  atom-answers {atom} {to} {l} {rows} e ready few rows-are more =
+      let i = subst (λ (u : AtomRead). Tests text from a (λ ts. ts) (operand n) u) e h .right in
+      let same : counted 0 (rowsOf (length a) (atomOf (i .tree))) (totals a counts) ≡ totals a l =
+          ap (λ (k : ℕ). counted 0 k (totals a counts)) (sym (rows-are ∙ ap (rowsOf (length a)) (i .is))) ∙ counts-plus a more
+      in
+      let most = rows-most (length a) atom in
+      record {
+        right =
+            record {
+              comes =
+                  record {
+                    before = i .before;
+                    after = i .after;
+                    ending = i .ending;
+                    here = i .here;
+                    there = i .there;
+                    same = λ st. atom-runs n (totals a counts) st (i .ending) (i .derived) (i .within) ∙ ap (λ (k : Totals). run st k (i .after) (i .ending)) same;
+                    forth = omega (arith, i .forth);
+                  };
+              ready =
+                  record {
+                    short = ready .short;
+                    inside = i .inside;
+                    states = omega (arith, ap (λ (k : Counts). k .states) more, i .forth, ready .states);
+                    rows = omega (arith, ap (λ (k : Counts). k .rows) more, i .forth, ready .rows);
+                  };
+            };
+      }
+
+  -- and one that is none
+  pub atom-refused : {f : Refusal} → r ≡ Refused f → Answers text (spot from (operand n ∷ []) (totals a counts)) [] a (Read.Refused f)
+  atom-refused {f} e = record { right = subst (λ (u : AtomRead). Tests text from a (λ ts. ts) (operand n) u) e h .right (totals a counts) refl }

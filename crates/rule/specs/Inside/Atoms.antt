@@ -1,5 +1,5 @@
 -- What the readers of a condition's atoms promise: the atom that the grammar derives, or a refusal.
-use Prim.Native.Nat.{ℕ, _+_, _≤_}
+use Prim.Native.Nat.{ℕ, _+_, _≤_, _<_}
 use mathlib.Core.Path.{_≡_}
 use mathlib.Core.Bool.{Bool, true, false}
 use mathlib.Core.List.{List, [], _∷_}
@@ -74,7 +74,7 @@ pub record IsFound (text : List ℕ) (from : ℕ) (alphabet : List ℕ) (lead : 
   pub derived : IsAtom (lead before) tree after
   pub within : atomFaults alphabet tree ≡ []
   pub is : atom ≡ atomOf tree
-  pub forth : from ≤ to
+  pub forth : from < to
   pub inside : to ≤ length text
 
 abbrev pub TestsRight : List ℕ → ℕ → List ℕ → (Ts → Ts) → Symbol → AtomRead → Type 0

@@ -1,4 +1,17 @@
-use Prim.Native.Nat.{ℕ, _<_}
+-- The cycle of calls of `condition_at` and `operand_at`. Each call is nearer to the text's end, and a condition's first operand
+-- is read from where the condition is.
+use native.Mathlib.Omega.{arith}
+use mathlib.Core.Path.{refl, sym, subst}
+use mathlib.Core.List.{List, [], _∷_}
+use lib.ListN.{length}
+use borrow.Author.Needs.{needs}
+use Rattle.rule.specs.Inside.Machine.{operand, tail}
+use Rattle.rule.specs.Inside.Answers.{alphabetOf, totals, spot, Comes, Ready, Answers}
+use Rattle.rule.proofs.Front.{front-sign, told-sign}
+use Rattle.rule.proofs.Moves.{stand, went, went-ready, went-forth, comes-then, onward, done, step, then, stop, break, ready-on, ready-plus}
+use Rattle.rule.proofs.Missed.{refuses, refuses-sign}
+use Rattle.rule.proofs.Operators.{none-left, some-left, one-deeper, no-sign-first, joins}
+use Prim.Native.Nat.{ℕ, _+_, _*_, _-_, _<_}
 use borrow.Fn.Kinds.{In}
 use borrow.Fn.PlainCycle.{Measures, is, falls, and}
 use Rattle.rule.proofs.conditions.condition_at.Reads as condition-at
@@ -15,10 +28,10 @@ use Rattle.rule.proofs.conditions.+condition_at+operand_at.{statement}
 use Rattle.rule.proofs.conditions.+condition_at+operand_at.Tie.{close}
 
 abbrev μ-condition-at : Measures 1 condition-at-kinds.ps ℕ
-μ-condition-at κs a = ?
+μ-condition-at κs a = 2 * (length (a .0 .now) - a .1 .0) + 1
 
 abbrev μ-operand-at : Measures 1 operand-at-kinds.ps ℕ
-μ-operand-at κs a = ?
+μ-operand-at κs a = 2 * (length (a .0 .now) - a .1 .0)
 
 abbrev condition-at-at : ℕ → In 1 condition-at-kinds.ps
 condition-at-at t =
@@ -40,471 +53,194 @@ abbrev operand-at-below : ℕ → In 1 operand-at-kinds.ps
 operand-at-below t =
     and 1 operand-at-kinds.ps (falls 1 operand-at-kinds.ps _<_ μ-operand-at t) operand-at.Pre
 
+abbrev condition-at-claims : ℕ → condition-at-lts.Claims
+condition-at-claims t =
+    (
+      operand-at-below t,
+      operand-at.Post,
+      token-at-reads.Asked,
+      token-at-reads.Learnt,
+      refuse-reads.Asked,
+      refuse-reads.Learnt,
+      plus-reads.Asked,
+      plus-reads.Learnt,
+    )
+
 abbrev condition-at-Inv-loop : condition-at-lts.InvT-loop
-condition-at-Inv-loop text at letters left from₀ so-far₀ from so-far = ?
+condition-at-Inv-loop text at letters left from₀ so-far₀ from so-far = 
+    Comes
+    text
+    (spot from₀ (operand (16 - left) ∷ tail (16 - left) ∷ []) (totals (alphabetOf letters) so-far₀))
+    (spot from (operand (16 - left) ∷ tail (16 - left) ∷ []) (totals (alphabetOf letters) so-far))
+    × Ready text from so-far
 
 abbrev condition-at-μ-loop : condition-at-lts.MeasureT-loop
-condition-at-μ-loop text at letters left from₀ so-far₀ from so-far = ?
+condition-at-μ-loop text at letters left from₀ so-far₀ from so-far = length text - from
 
--- src/conditions.rt:69:5
-condition-at-loop-holds : (t : ℕ) → condition-at-lts.Need-loop-holds (
-  operand-at-below t,
-  operand-at.Post,
-  token-at-reads.Asked,
-  token-at-reads.Learnt,
-  refuse-reads.Asked,
-  refuse-reads.Learnt,
-  plus-reads.Asked,
-  plus-reads.Learnt,
-) (condition-at-at t) condition-at.Post condition-at-Inv-loop condition-at-μ-loop
-condition-at-loop-holds t c = ?
+condition-at-loop-holds : (t : ℕ) → condition-at-lts.Need-loop-holds (condition-at-claims t) (condition-at-at t) condition-at.Post condition-at-Inv-loop condition-at-μ-loop
+condition-at-loop-holds t c = (stand _, c .before .pre .1 .0)
 
--- src/conditions.rt:70:13
-condition-at-operand-at-requires : (t : ℕ) → condition-at-lts.Need-operand-at-requires (
-  operand-at-below t,
-  operand-at.Post,
-  token-at-reads.Asked,
-  token-at-reads.Learnt,
-  refuse-reads.Asked,
-  refuse-reads.Learnt,
-  plus-reads.Asked,
-  plus-reads.Learnt,
-) (condition-at-at t) condition-at.Post condition-at-Inv-loop condition-at-μ-loop
-condition-at-operand-at-requires t c κs = ?
+condition-at-operand-at-requires : (t : ℕ) → condition-at-lts.Need-operand-at-requires (condition-at-claims t) (condition-at-at t) condition-at.Post condition-at-Inv-loop condition-at-μ-loop
+condition-at-operand-at-requires t c κs = 
+    let start = c .before .before in
+    let forth = c .loop .inv .0 .forth in
+    (omega (arith, start .pre .0), (c .loop .inv .1, start .pre .1 .1))
 
--- src/conditions.rt:71:30
-condition-at-enum-known-read : (t : ℕ) → condition-at-lts.Need-enum-known-read (
-  operand-at-below t,
-  operand-at.Post,
-  token-at-reads.Asked,
-  token-at-reads.Learnt,
-  refuse-reads.Asked,
-  refuse-reads.Learnt,
-  plus-reads.Asked,
-  plus-reads.Learnt,
-) (condition-at-at t) condition-at.Post condition-at-Inv-loop condition-at-μ-loop
-condition-at-enum-known-read t c = ?
+condition-at-enum-known-read : (t : ℕ) → condition-at-lts.Need-enum-known-read (condition-at-claims t) (condition-at-at t) condition-at.Post condition-at-Inv-loop condition-at-μ-loop
+condition-at-enum-known-read t c = search needs
 
--- src/conditions.rt:72:13
-condition-at-enum-told : (t : ℕ) → condition-at-lts.Need-enum-told (
-  operand-at-below t,
-  operand-at.Post,
-  token-at-reads.Asked,
-  token-at-reads.Learnt,
-  refuse-reads.Asked,
-  refuse-reads.Learnt,
-  plus-reads.Asked,
-  plus-reads.Learnt,
-) (condition-at-at t) condition-at.Post condition-at-Inv-loop condition-at-μ-loop
-condition-at-enum-told t c = ?
+condition-at-enum-told : (t : ℕ) → condition-at-lts.Need-enum-told (condition-at-claims t) (condition-at-at t) condition-at.Post condition-at-Inv-loop condition-at-μ-loop
+condition-at-enum-told t c = search needs
 
--- src/conditions.rt:72:13
-condition-at-returns : (t : ℕ) → condition-at-lts.Need-returns (
-  operand-at-below t,
-  operand-at.Post,
-  token-at-reads.Asked,
-  token-at-reads.Learnt,
-  refuse-reads.Asked,
-  refuse-reads.Learnt,
-  plus-reads.Asked,
-  plus-reads.Learnt,
-) (condition-at-at t) condition-at.Post condition-at-Inv-loop condition-at-μ-loop
-condition-at-returns t c = ?
+condition-at-returns : (t : ℕ) → condition-at-lts.Need-returns (condition-at-claims t) (condition-at-at t) condition-at.Post condition-at-Inv-loop condition-at-μ-loop
+condition-at-returns t c = onward (c .before .before .before .loop .inv .0) (stop _ (c .before .before .operand-at .ensures) (c .enum-told .given .1))
 
--- src/conditions.rt:74:13
-condition-at-token-at-requires : (t : ℕ) → condition-at-lts.Need-token-at-requires (
-  operand-at-below t,
-  operand-at.Post,
-  token-at-reads.Asked,
-  token-at-reads.Learnt,
-  refuse-reads.Asked,
-  refuse-reads.Learnt,
-  plus-reads.Asked,
-  plus-reads.Learnt,
-) (condition-at-at t) condition-at.Post condition-at-Inv-loop condition-at-μ-loop
-condition-at-token-at-requires t c κs = ?
+condition-at-token-at-requires : (t : ℕ) → condition-at-lts.Need-token-at-requires (condition-at-claims t) (condition-at-at t) condition-at.Post condition-at-Inv-loop condition-at-μ-loop
+condition-at-token-at-requires t c κs = search needs
 
--- src/conditions.rt:75:34
-condition-at-enum-known-token : (t : ℕ) → condition-at-lts.Need-enum-known-token (
-  operand-at-below t,
-  operand-at.Post,
-  token-at-reads.Asked,
-  token-at-reads.Learnt,
-  refuse-reads.Asked,
-  refuse-reads.Learnt,
-  plus-reads.Asked,
-  plus-reads.Learnt,
-) (condition-at-at t) condition-at.Post condition-at-Inv-loop condition-at-μ-loop
-condition-at-enum-known-token t c = ?
+condition-at-enum-known-token : (t : ℕ) → condition-at-lts.Need-enum-known-token (condition-at-claims t) (condition-at-at t) condition-at.Post condition-at-Inv-loop condition-at-μ-loop
+condition-at-enum-known-token t c = search needs
 
--- src/conditions.rt:76:34
-condition-at-refuse-requires : (t : ℕ) → condition-at-lts.Need-refuse-requires (
-  operand-at-below t,
-  operand-at.Post,
-  token-at-reads.Asked,
-  token-at-reads.Learnt,
-  refuse-reads.Asked,
-  refuse-reads.Learnt,
-  plus-reads.Asked,
-  plus-reads.Learnt,
-) (condition-at-at t) condition-at.Post condition-at-Inv-loop condition-at-μ-loop
-condition-at-refuse-requires t c κs = ?
+condition-at-refuse-requires : (t : ℕ) → condition-at-lts.Need-refuse-requires (condition-at-claims t) (condition-at-at t) condition-at.Post condition-at-Inv-loop condition-at-μ-loop
+condition-at-refuse-requires t c κs = search needs
 
--- src/conditions.rt:76:13
-condition-at-returns-2 : (t : ℕ) → condition-at-lts.Need-returns-2 (
-  operand-at-below t,
-  operand-at.Post,
-  token-at-reads.Asked,
-  token-at-reads.Learnt,
-  refuse-reads.Asked,
-  refuse-reads.Learnt,
-  plus-reads.Asked,
-  plus-reads.Learnt,
-) (condition-at-at t) condition-at.Post condition-at-Inv-loop condition-at-μ-loop
-condition-at-returns-2 t c = ?
+condition-at-returns-2 : (t : ℕ) → condition-at-lts.Need-returns-2 (condition-at-claims t) (condition-at-at t) condition-at.Post condition-at-Inv-loop condition-at-μ-loop
+condition-at-returns-2 t c = 
+    onward
+    (c .before .before .before .before .before .before .before .loop .inv .0)
+    (then _ (c .before .before .before .before .before .before .operand-at .ensures) (c .before .before .before .before .read .given .1) (refuses (c .before .before .token-at .ensures) (c .before .match2 .keys2) (c .refuse .ensures)))
 
--- src/conditions.rt:80:17
-condition-at-enum-told-2 : (t : ℕ) → condition-at-lts.Need-enum-told-2 (
-  operand-at-below t,
-  operand-at.Post,
-  token-at-reads.Asked,
-  token-at-reads.Learnt,
-  refuse-reads.Asked,
-  refuse-reads.Learnt,
-  plus-reads.Asked,
-  plus-reads.Learnt,
-) (condition-at-at t) condition-at.Post condition-at-Inv-loop condition-at-μ-loop
-condition-at-enum-told-2 t c = ?
+condition-at-enum-told-2 : (t : ℕ) → condition-at-lts.Need-enum-told-2 (condition-at-claims t) (condition-at-at t) condition-at.Post condition-at-Inv-loop condition-at-μ-loop
+condition-at-enum-told-2 t c = search needs
 
--- src/conditions.rt:80:17
-condition-at-returns-3 : (t : ℕ) → condition-at-lts.Need-returns-3 (
-  operand-at-below t,
-  operand-at.Post,
-  token-at-reads.Asked,
-  token-at-reads.Learnt,
-  refuse-reads.Asked,
-  refuse-reads.Learnt,
-  plus-reads.Asked,
-  plus-reads.Learnt,
-) (condition-at-at t) condition-at.Post condition-at-Inv-loop condition-at-μ-loop
-condition-at-returns-3 t c = ?
+condition-at-returns-3 : (t : ℕ) → condition-at-lts.Need-returns-3 (condition-at-claims t) (condition-at-at t) condition-at.Post condition-at-Inv-loop condition-at-μ-loop
+condition-at-returns-3 t c = 
+    let read = c .before .before .before .before .before .before .before .before .before .operand-at .ensures in
+    let went = c .before .before .before .before .before .before .before .read .given .1 in
+    let f = told-sign (c .before .before .before .before .before .token-at .ensures) (c .before .before .before .token .given .1) (c .enum-told2 .given .1) in
+    onward (c .before .before .before .before .before .before .before .before .before .before .loop .inv .0) (then _ read went (step f refl refl refl (done (ready-on f (went-ready read went)))))
 
--- src/conditions.rt:87:17
-condition-at-plus-requires : (t : ℕ) → condition-at-lts.Need-plus-requires (
-  operand-at-below t,
-  operand-at.Post,
-  token-at-reads.Asked,
-  token-at-reads.Learnt,
-  refuse-reads.Asked,
-  refuse-reads.Learnt,
-  plus-reads.Asked,
-  plus-reads.Learnt,
-) (condition-at-at t) condition-at.Post condition-at-Inv-loop condition-at-μ-loop
-condition-at-plus-requires t c κs = ?
+condition-at-plus-requires : (t : ℕ) → condition-at-lts.Need-plus-requires (condition-at-claims t) (condition-at-at t) condition-at.Post condition-at-Inv-loop condition-at-μ-loop
+condition-at-plus-requires t c κs = omega (arith, went-ready (c .before .before .before .before .before .before .before .before .operand-at .ensures) (c .before .before .before .before .before .before .read .given .1))
 
--- src/conditions.rt:69:5
-condition-at-loop-less : (t : ℕ) → condition-at-lts.Need-loop-less (
-  operand-at-below t,
-  operand-at.Post,
-  token-at-reads.Asked,
-  token-at-reads.Learnt,
-  refuse-reads.Asked,
-  refuse-reads.Learnt,
-  plus-reads.Asked,
-  plus-reads.Learnt,
-) (condition-at-at t) condition-at.Post condition-at-Inv-loop condition-at-μ-loop
-condition-at-loop-less t c = ?
+condition-at-loop-less : (t : ℕ) → condition-at-lts.Need-loop-less (condition-at-claims t) (condition-at-at t) condition-at.Post condition-at-Inv-loop condition-at-μ-loop
+condition-at-loop-less t c = 
+    let f = front-sign (c .before .before .before .before .before .token-at .ensures) (c .before .before .before .token .given .1) in
+    let forth = went-forth (c .before .before .before .before .before .before .before .before .before .operand-at .ensures) (c .before .before .before .before .before .before .before .read .given .1) in
+    omega (arith, f .back, f .some, f .within)
 
--- src/conditions.rt:69:5
-condition-at-loop-again : (t : ℕ) → condition-at-lts.Need-loop-again (
-  operand-at-below t,
-  operand-at.Post,
-  token-at-reads.Asked,
-  token-at-reads.Learnt,
-  refuse-reads.Asked,
-  refuse-reads.Learnt,
-  plus-reads.Asked,
-  plus-reads.Learnt,
-) (condition-at-at t) condition-at.Post condition-at-Inv-loop condition-at-μ-loop
-condition-at-loop-again t c = ?
+condition-at-loop-again : (t : ℕ) → condition-at-lts.Need-loop-again (condition-at-claims t) (condition-at-at t) condition-at.Post condition-at-Inv-loop condition-at-μ-loop
+condition-at-loop-again t c = 
+    let read = c .before .before .before .before .before .before .before .before .before .operand-at .ensures in
+    let went-on = c .before .before .before .before .before .before .before .read .given .1 in
+    let first = c .before .before .before .before .before .token-at .ensures in
+    let is = c .before .before .before .token .given .1 in
+    (comes-then (c .before .before .before .before .before .before .before .before .before .before .loop .inv .0) (comes-then (went _ read went-on) (joins first is (c .before .match3 .keys2) (c .plus .ensures))), ready-plus (front-sign first is) (went-ready read went-on) (c .plus .ensures) (omega arith) (omega arith))
 
--- src/conditions.rt:90:38
-condition-at-refuse-requires-2 : (t : ℕ) → condition-at-lts.Need-refuse-requires-2 (
-  operand-at-below t,
-  operand-at.Post,
-  token-at-reads.Asked,
-  token-at-reads.Learnt,
-  refuse-reads.Asked,
-  refuse-reads.Learnt,
-  plus-reads.Asked,
-  plus-reads.Learnt,
-) (condition-at-at t) condition-at.Post condition-at-Inv-loop condition-at-μ-loop
-condition-at-refuse-requires-2 t c κs = ?
+condition-at-refuse-requires-2 : (t : ℕ) → condition-at-lts.Need-refuse-requires-2 (condition-at-claims t) (condition-at-at t) condition-at.Post condition-at-Inv-loop condition-at-μ-loop
+condition-at-refuse-requires-2 t c κs = search needs
 
--- src/conditions.rt:90:17
-condition-at-returns-4 : (t : ℕ) → condition-at-lts.Need-returns-4 (
-  operand-at-below t,
-  operand-at.Post,
-  token-at-reads.Asked,
-  token-at-reads.Learnt,
-  refuse-reads.Asked,
-  refuse-reads.Learnt,
-  plus-reads.Asked,
-  plus-reads.Learnt,
-) (condition-at-at t) condition-at.Post condition-at-Inv-loop condition-at-μ-loop
-condition-at-returns-4 t c = ?
+condition-at-returns-4 : (t : ℕ) → condition-at-lts.Need-returns-4 (condition-at-claims t) (condition-at-at t) condition-at.Post condition-at-Inv-loop condition-at-μ-loop
+condition-at-returns-4 t c = 
+    onward
+    (c .before .before .before .before .before .before .before .before .before .before .loop .inv .0)
+    (then
+    _
+    (c .before .before .before .before .before .before .before .before .before .operand-at .ensures)
+    (c .before .before .before .before .before .before .before .read .given .1)
+    (refuses-sign (c .before .before .before .before .before .token-at .ensures) (c .before .before .before .token .given .1) (c .before .match3 .keys3) (c .refuse2 .ensures)))
 
--- src/conditions.rt:40:9
-operand-at-token-at-requires : (t : ℕ) → operand-at-lts.Need-token-at-requires (
-  token-at-reads.Asked,
-  token-at-reads.Learnt,
-  counted-atom-at-reads.Asked,
-  counted-atom-at-reads.Learnt,
-  condition-at-below t,
-  condition-at.Post,
-  operand-at-below t,
-  operand-at.Post,
-  refuse-reads.Asked,
-  refuse-reads.Learnt,
-) (operand-at-at t) operand-at.Post
-operand-at-token-at-requires t c κs = ?
+abbrev operand-at-claims : ℕ → operand-at-lts.Claims
+operand-at-claims t =
+    (
+      token-at-reads.Asked,
+      token-at-reads.Learnt,
+      counted-atom-at-reads.Asked,
+      counted-atom-at-reads.Learnt,
+      condition-at-below t,
+      condition-at.Post,
+      operand-at-below t,
+      operand-at.Post,
+      refuse-reads.Asked,
+      refuse-reads.Learnt,
+    )
 
--- src/conditions.rt:41:27
-operand-at-enum-known-token : (t : ℕ) → operand-at-lts.Need-enum-known-token (
-  token-at-reads.Asked,
-  token-at-reads.Learnt,
-  counted-atom-at-reads.Asked,
-  counted-atom-at-reads.Learnt,
-  condition-at-below t,
-  condition-at.Post,
-  operand-at-below t,
-  operand-at.Post,
-  refuse-reads.Asked,
-  refuse-reads.Learnt,
-) (operand-at-at t) operand-at.Post
-operand-at-enum-known-token t c = ?
+operand-at-token-at-requires : (t : ℕ) → operand-at-lts.Need-token-at-requires (operand-at-claims t) (operand-at-at t) operand-at.Post
+operand-at-token-at-requires t c κs = search needs
 
--- src/conditions.rt:42:9
-operand-at-counted-atom-at-requires : (t : ℕ) → operand-at-lts.Need-counted-atom-at-requires (
-  token-at-reads.Asked,
-  token-at-reads.Learnt,
-  counted-atom-at-reads.Asked,
-  counted-atom-at-reads.Learnt,
-  condition-at-below t,
-  condition-at.Post,
-  operand-at-below t,
-  operand-at.Post,
-  refuse-reads.Asked,
-  refuse-reads.Learnt,
-) (operand-at-at t) operand-at.Post
-operand-at-counted-atom-at-requires t c κs = ?
+operand-at-enum-known-token : (t : ℕ) → operand-at-lts.Need-enum-known-token (operand-at-claims t) (operand-at-at t) operand-at.Post
+operand-at-enum-known-token t c = search needs
 
--- src/conditions.rt:42:9
-operand-at-returns : (t : ℕ) → operand-at-lts.Need-returns (
-  token-at-reads.Asked,
-  token-at-reads.Learnt,
-  counted-atom-at-reads.Asked,
-  counted-atom-at-reads.Learnt,
-  condition-at-below t,
-  condition-at.Post,
-  operand-at-below t,
-  operand-at.Post,
-  refuse-reads.Asked,
-  refuse-reads.Learnt,
-) (operand-at-at t) operand-at.Post
-operand-at-returns t c = ?
+operand-at-counted-atom-at-requires : (t : ℕ) → operand-at-lts.Need-counted-atom-at-requires (operand-at-claims t) (operand-at-at t) operand-at.Post
+operand-at-counted-atom-at-requires t c κs = 
+    let start = c .before .before .before in
+    (start .pre .1 .0, (no-sign-first (c .before .token-at .ensures) (c .match .keys2), start .pre .1 .1 .0))
 
--- src/conditions.rt:46:16
-operand-at-enum-told : (t : ℕ) → operand-at-lts.Need-enum-told (
-  token-at-reads.Asked,
-  token-at-reads.Learnt,
-  counted-atom-at-reads.Asked,
-  counted-atom-at-reads.Learnt,
-  condition-at-below t,
-  condition-at.Post,
-  operand-at-below t,
-  operand-at.Post,
-  refuse-reads.Asked,
-  refuse-reads.Learnt,
-) (operand-at-at t) operand-at.Post
-operand-at-enum-told t c = ?
+operand-at-returns : (t : ℕ) → operand-at-lts.Need-returns (operand-at-claims t) (operand-at-at t) operand-at.Post
+operand-at-returns t c = c .counted-atom-at .ensures (16 - c .before .before .before .before .args .left)
 
--- src/conditions.rt:47:17
-operand-at-returns-2 : (t : ℕ) → operand-at-lts.Need-returns-2 (
-  token-at-reads.Asked,
-  token-at-reads.Learnt,
-  counted-atom-at-reads.Asked,
-  counted-atom-at-reads.Learnt,
-  condition-at-below t,
-  condition-at.Post,
-  operand-at-below t,
-  operand-at.Post,
-  refuse-reads.Asked,
-  refuse-reads.Learnt,
-) (operand-at-at t) operand-at.Post
-operand-at-returns-2 t c = ?
+operand-at-enum-told : (t : ℕ) → operand-at-lts.Need-enum-told (operand-at-claims t) (operand-at-at t) operand-at.Post
+operand-at-enum-told t c = search needs
 
--- src/conditions.rt:49:54
-operand-at-sub-condition-at : (t : ℕ) → operand-at-lts.Need-sub-condition-at (
-  token-at-reads.Asked,
-  token-at-reads.Learnt,
-  counted-atom-at-reads.Asked,
-  counted-atom-at-reads.Learnt,
-  condition-at-below t,
-  condition-at.Post,
-  operand-at-below t,
-  operand-at.Post,
-  refuse-reads.Asked,
-  refuse-reads.Learnt,
-) (operand-at-at t) operand-at.Post
-operand-at-sub-condition-at t c = ?
+operand-at-returns-2 : (t : ℕ) → operand-at-lts.Need-returns-2 (operand-at-claims t) (operand-at-at t) operand-at.Post
+operand-at-returns-2 t c = 
+    break (told-sign (c .before .before .before .before .before .before .token-at .ensures) (c .before .before .before .before .token .given .1) (c .before .enum-told .given .1)) refl (none-left (c .before .before .before .before .before .before .before .before .args .left) (c .if1 .taken))
 
--- src/conditions.rt:49:13
-operand-at-condition-at-requires : (t : ℕ) → operand-at-lts.Need-condition-at-requires (
-  token-at-reads.Asked,
-  token-at-reads.Learnt,
-  counted-atom-at-reads.Asked,
-  counted-atom-at-reads.Learnt,
-  condition-at-below t,
-  condition-at.Post,
-  operand-at-below t,
-  operand-at.Post,
-  refuse-reads.Asked,
-  refuse-reads.Learnt,
-) (operand-at-at t) operand-at.Post
-operand-at-condition-at-requires t c κs = ?
+operand-at-sub-condition-at : (t : ℕ) → operand-at-lts.Need-sub-condition-at (operand-at-claims t) (operand-at-at t) operand-at.Post
+operand-at-sub-condition-at t c = omega arith
 
--- src/conditions.rt:52:16
-operand-at-enum-told-2 : (t : ℕ) → operand-at-lts.Need-enum-told-2 (
-  token-at-reads.Asked,
-  token-at-reads.Learnt,
-  counted-atom-at-reads.Asked,
-  counted-atom-at-reads.Learnt,
-  condition-at-below t,
-  condition-at.Post,
-  operand-at-below t,
-  operand-at.Post,
-  refuse-reads.Asked,
-  refuse-reads.Learnt,
-) (operand-at-at t) operand-at.Post
-operand-at-enum-told-2 t c = ?
+operand-at-condition-at-requires : (t : ℕ) → operand-at-lts.Need-condition-at-requires (operand-at-claims t) (operand-at-at t) operand-at.Post
+operand-at-condition-at-requires t c κs = 
+    let start = c .before .before .before .before .before .before .before .before in
+    let f = front-sign (c .before .before .before .before .before .before .token-at .ensures) (c .before .before .before .before .token .given .1) in
+    (omega (arith, start .pre .0, f .back, f .some, f .within), (ready-on f (start .pre .1 .0), (start .pre .1 .1 .0, omega (arith, start .pre .1 .1))))
 
--- src/conditions.rt:53:17
-operand-at-returns-3 : (t : ℕ) → operand-at-lts.Need-returns-3 (
-  token-at-reads.Asked,
-  token-at-reads.Learnt,
-  counted-atom-at-reads.Asked,
-  counted-atom-at-reads.Learnt,
-  condition-at-below t,
-  condition-at.Post,
-  operand-at-below t,
-  operand-at.Post,
-  refuse-reads.Asked,
-  refuse-reads.Learnt,
-) (operand-at-at t) operand-at.Post
-operand-at-returns-3 t c = ?
+operand-at-enum-told-2 : (t : ℕ) → operand-at-lts.Need-enum-told-2 (operand-at-claims t) (operand-at-at t) operand-at.Post
+operand-at-enum-told-2 t c = search needs
 
--- src/conditions.rt:55:52
-operand-at-sub-operand-at : (t : ℕ) → operand-at-lts.Need-sub-operand-at (
-  token-at-reads.Asked,
-  token-at-reads.Learnt,
-  counted-atom-at-reads.Asked,
-  counted-atom-at-reads.Learnt,
-  condition-at-below t,
-  condition-at.Post,
-  operand-at-below t,
-  operand-at.Post,
-  refuse-reads.Asked,
-  refuse-reads.Learnt,
-) (operand-at-at t) operand-at.Post
-operand-at-sub-operand-at t c = ?
+operand-at-returns-3 : (t : ℕ) → operand-at-lts.Need-returns-3 (operand-at-claims t) (operand-at-at t) operand-at.Post
+operand-at-returns-3 t c = 
+    break (told-sign (c .before .before .before .before .before .before .token-at .ensures) (c .before .before .before .before .token .given .1) (c .before .enum-told2 .given .1)) refl (none-left (c .before .before .before .before .before .before .before .before .args .left) (c .if2 .taken))
 
--- src/conditions.rt:55:13
-operand-at-operand-at-requires : (t : ℕ) → operand-at-lts.Need-operand-at-requires (
-  token-at-reads.Asked,
-  token-at-reads.Learnt,
-  counted-atom-at-reads.Asked,
-  counted-atom-at-reads.Learnt,
-  condition-at-below t,
-  condition-at.Post,
-  operand-at-below t,
-  operand-at.Post,
-  refuse-reads.Asked,
-  refuse-reads.Learnt,
-) (operand-at-at t) operand-at.Post
-operand-at-operand-at-requires t c κs = ?
+operand-at-sub-operand-at : (t : ℕ) → operand-at-lts.Need-sub-operand-at (operand-at-claims t) (operand-at-at t) operand-at.Post
+operand-at-sub-operand-at t c = omega arith
 
--- src/conditions.rt:57:28
-operand-at-refuse-requires : (t : ℕ) → operand-at-lts.Need-refuse-requires (
-  token-at-reads.Asked,
-  token-at-reads.Learnt,
-  counted-atom-at-reads.Asked,
-  counted-atom-at-reads.Learnt,
-  condition-at-below t,
-  condition-at.Post,
-  operand-at-below t,
-  operand-at.Post,
-  refuse-reads.Asked,
-  refuse-reads.Learnt,
-) (operand-at-at t) operand-at.Post
-operand-at-refuse-requires t c κs = ?
+operand-at-operand-at-requires : (t : ℕ) → operand-at-lts.Need-operand-at-requires (operand-at-claims t) (operand-at-at t) operand-at.Post
+operand-at-operand-at-requires t c κs = 
+    let start = c .before .before .before .before .before .before .before .before in
+    let f = front-sign (c .before .before .before .before .before .before .token-at .ensures) (c .before .before .before .before .token .given .1) in
+    (omega (arith, start .pre .0, f .back, f .some, f .within), (ready-on f (start .pre .1 .0), (start .pre .1 .1 .0, omega (arith, start .pre .1 .1))))
 
--- src/conditions.rt:35:1
-operand-at-returns-4 : (t : ℕ) → operand-at-lts.Need-returns-4 (
-  token-at-reads.Asked,
-  token-at-reads.Learnt,
-  counted-atom-at-reads.Asked,
-  counted-atom-at-reads.Learnt,
-  condition-at-below t,
-  condition-at.Post,
-  operand-at-below t,
-  operand-at.Post,
-  refuse-reads.Asked,
-  refuse-reads.Learnt,
-) (operand-at-at t) operand-at.Post
-operand-at-returns-4 t c = ?
+operand-at-refuse-requires : (t : ℕ) → operand-at-lts.Need-refuse-requires (operand-at-claims t) (operand-at-at t) operand-at.Post
+operand-at-refuse-requires t c κs = search needs
 
--- src/conditions.rt:35:1
-operand-at-returns-5 : (t : ℕ) → operand-at-lts.Need-returns-5 (
-  token-at-reads.Asked,
-  token-at-reads.Learnt,
-  counted-atom-at-reads.Asked,
-  counted-atom-at-reads.Learnt,
-  condition-at-below t,
-  condition-at.Post,
-  operand-at-below t,
-  operand-at.Post,
-  refuse-reads.Asked,
-  refuse-reads.Learnt,
-) (operand-at-at t) operand-at.Post
-operand-at-returns-5 t c = ?
+operand-at-returns-4 : (t : ℕ) → operand-at-lts.Need-returns-4 (operand-at-claims t) (operand-at-at t) operand-at.Post
+operand-at-returns-4 t c = 
+    let start = c .before .before .before .before .before .before .before .before .before in
+    let deeper = one-deeper (start .args .left) (c .before .if1 .left) (start .pre .1 .1 .1) in
+    step
+    (told-sign (c .before .before .before .before .before .before .before .token-at .ensures) (c .before .before .before .before .before .token .given .1) (c .before .before .enum-told .given .1))
+    refl
+    (some-left (start .args .left) (c .before .if1 .left))
+    refl
+    (rw deeper at (c .condition-at .ensures))
 
--- src/conditions.rt:35:1
-operand-at-returns-6 : (t : ℕ) → operand-at-lts.Need-returns-6 (
-  token-at-reads.Asked,
-  token-at-reads.Learnt,
-  counted-atom-at-reads.Asked,
-  counted-atom-at-reads.Learnt,
-  condition-at-below t,
-  condition-at.Post,
-  operand-at-below t,
-  operand-at.Post,
-  refuse-reads.Asked,
-  refuse-reads.Learnt,
-) (operand-at-at t) operand-at.Post
-operand-at-returns-6 t c = ?
+operand-at-returns-5 : (t : ℕ) → operand-at-lts.Need-returns-5 (operand-at-claims t) (operand-at-at t) operand-at.Post
+operand-at-returns-5 t c = 
+    let start = c .before .before .before .before .before .before .before .before .before in
+    let deeper = one-deeper (start .args .left) (c .before .if2 .left) (start .pre .1 .1 .1) in
+    step
+    (told-sign (c .before .before .before .before .before .before .before .token-at .ensures) (c .before .before .before .before .before .token .given .1) (c .before .before .enum-told2 .given .1))
+    refl
+    (some-left (start .args .left) (c .before .if2 .left))
+    refl
+    (rw deeper at (c .operand-at .ensures))
+
+operand-at-returns-6 : (t : ℕ) → operand-at-lts.Need-returns-6 (operand-at-claims t) (operand-at-at t) operand-at.Post
+operand-at-returns-6 t c = refuses-sign (c .before .before .before .before .before .token-at .ensures) (c .before .before .before .token .given .1) (c .before .match2 .keys3) (c .refuse .ensures)
 
 pub +condition-at+operand-at-spec : {M : Type 1} → statement M
-+condition-at+operand-at-spec = close μ-condition-at μ-operand-at (λ t. condition-at-lts.spec (
-  operand-at-below t,
-  operand-at.Post,
-  token-at-reads.Asked,
-  token-at-reads.Learnt,
-  refuse-reads.Asked,
-  refuse-reads.Learnt,
-  plus-reads.Asked,
-  plus-reads.Learnt,
-)
++condition-at+operand-at-spec = close μ-condition-at μ-operand-at (λ t. condition-at-lts.spec (condition-at-claims t)
     (condition-at-at t)
     condition-at.Post
     condition-at-Inv-loop
@@ -525,18 +261,7 @@ pub +condition-at+operand-at-spec : {M : Type 1} → statement M
     (condition-at-loop-again t)
     (condition-at-refuse-requires-2 t)
     (condition-at-returns-4 t))
-    λ t. operand-at-lts.spec (
-      token-at-reads.Asked,
-      token-at-reads.Learnt,
-      counted-atom-at-reads.Asked,
-      counted-atom-at-reads.Learnt,
-      condition-at-below t,
-      condition-at.Post,
-      operand-at-below t,
-      operand-at.Post,
-      refuse-reads.Asked,
-      refuse-reads.Learnt,
-    )
+    λ t. operand-at-lts.spec (operand-at-claims t)
     (operand-at-at t)
     operand-at.Post
     (operand-at-token-at-requires t)

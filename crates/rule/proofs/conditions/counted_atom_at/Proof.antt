@@ -1,39 +1,50 @@
+-- `rule::conditions::counted_atom_at` meets its contract.
+use native.Mathlib.Omega.{arith}
+use mathlib.Core.Path.{_≡_, sym, ap, _∙_}
+use lib.ListN.{length}
+use Prim.Native.Nat.{ℕ, _≤_}
+use Rattle.rule.specs.Inside.Answers.{alphabetOf}
+use Rattle.rule.specs.Inside.Atoms.{rowsOf}
+use Rattle.rule.proofs.Alphabet.{alphabet-length}
+use Rattle.rule.proofs.Tested.{rows-most, atom-answers, atom-refused}
 use borrow.Author.Needs.{needs}
 use Rattle.rule.proofs.conditions.counted_atom_at.Statement.{statement}
 use Rattle.rule.proofs.conditions.counted_atom_at.Tie as tie
-use Rattle.rule.proofs.conditions.counted_atom_at.Reads as reads
-use Rattle.rule.proofs.conditions.counted_atom_at.Lts as lts
-use Rattle.rule.proofs.answers.Counts.plus.Reads as plus-reads
-use Rattle.rule.proofs.atoms.atom_at.Reads as atom-at-reads
-use Rattle.rule.proofs.atoms.rows_of.Reads as rows-of-reads
 
--- src/conditions.rt:25:11
 atom-at-requires : tie.Need-atom-at-requires
 atom-at-requires c κs = search needs
 
--- src/conditions.rt:26:27
 enum-known-atom : tie.Need-enum-known-atom
 enum-known-atom c = search needs
 
--- src/conditions.rt:28:36
 rows-of-requires : tie.Need-rows-of-requires
 rows-of-requires c κs = search needs
 
--- src/conditions.rt:28:21
 plus-requires : tie.Need-plus-requires
-plus-requires c κs = ?
+plus-requires c κs =
+    let start = c .before .before .before .before .before .before in
+    let most = rows-most (start .args .letters .count) (c .before .before .atom .given .0 .0) in
+    omega (arith, c .rows-of .ensures, start .pre .0, start .pre .1 .1)
 
--- src/conditions.rt:30:27
 enum-known-refusal : tie.Need-enum-known-refusal
 enum-known-refusal c = search needs
 
--- src/conditions.rt:20:1
 returns : tie.Need-returns
-returns c = ?
+returns c = 
+    let start = c .before .before .before .before .before .before .before in
+    let sized = alphabet-length (start .pre .1 .1) in
+    let few : length (alphabetOf (start .args .letters)) ≤ 16 = omega (arith, start .pre .1 .1) in
+    λ n.
+    atom-answers
+    (c .before .before .before .before .before .atom-at .ensures n)
+    (c .before .before .before .atom .given .1)
+    (start .pre .0)
+    few
+    (c .before .rows-of .ensures ∙ ap (λ (k : ℕ). rowsOf k (c .before .before .before .atom .given .0 .0)) (sym sized))
+    (c .plus .ensures)
 
--- src/conditions.rt:20:1
 returns-2 : tie.Need-returns-2
-returns-2 c = ?
+returns-2 c = λ n. atom-refused (c .before .before .before .atom-at .ensures n) (c .before .refusal .given .1)
 
 pub counted-atom-at-spec : {M : Type 1} → statement M
 counted-atom-at-spec =
