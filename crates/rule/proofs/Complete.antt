@@ -1,12 +1,12 @@
 -- The machine takes whatever is derived, sees the faults of its tree and no others, and makes that very tree.
 use Prim.Native.Nat.{ℕ, suc}
 use mathlib.Core.Path.{_≡_, refl, sym, _∙_, ap}
-use mathlib.Core.Bool.{Bool, true, false}
+use mathlib.Core.Bool.{Bool}
 use mathlib.Core.Option.{Option, none, some, Option·some-injective}
 use mathlib.Core.List.{List, [], _∷_}
-use lib.Dec.{leb}
-use Rattle.text.specs.Token.{Token, w, s}
-use Rattle.text.specs.Tokens.{Placed, _at_}
+use lib.Dec.{T, leb}
+use Rattle.text.specs.Token.{Token, s}
+use Rattle.text.specs.Tokens.{_at_}
 use Rattle.rule.specs.Tree as Tree
 use Rattle.rule.specs.Tree.{Letter, Sought, Atom, Condition, Plain, Statement, Statements, Arms, Program, done, _then_}
 use Rattle.rule.specs.Grammar as Grammar
@@ -29,9 +29,11 @@ use Rattle.rule.specs.Grammar.{
   IsSettings,
   IsProgram,
 }
+use Rattle.rule.specs.Inside.Class.{Mark, classify}
 use Rattle.rule.specs.Inside.Machine as Machine
-use Rattle.rule.specs.Inside.Machine.{Symbol, Stack, Value, Values, start, operand, tail, block, statements, orElse, arms, orAlso}
-use Rattle.rule.proofs.Steps.{Ts, Far, State, state, eat}
+use Rattle.rule.specs.Inside.Machine.{Symbol, Stack, Value, Values, operand, tail, block, statements, orElse, arms, orAlso}
+use Rattle.rule.proofs.Steps.{Ts, Is, is, Far, State, state, begin, eat}
+use Rattle.rule.proofs.Follow.{unlike, eat-no-else, eat-no-also}
 use Rattle.rule.proofs.Far.{
   counts,
   notes,
@@ -45,10 +47,6 @@ use Rattle.rule.proofs.Far.{
   lettersFar,
   programFar,
 }
-
--- the tokens begin with this one, and go on with these
-pub data Is (t : Token) : Ts → Ts → Type 0 where
-  is : {p : ℕ} {ts : Ts} → Is t ((t at p) ∷ ts) ts
 
 -- the symbol takes the tokens up to these, gives this, and comes so far
 abbrev pub Eats : (x : Symbol) → Ts → Value x → (Far → Far) → Ts → Type 0
@@ -148,66 +146,42 @@ plain-eats Grammar.decrement d st a k = refl
 plain-eats Grammar.add d st a k = refl
 plain-eats Grammar.subtract d st a k = refl
 
--- with what statements up to `}` begin
-data First : Ts → Type 0 where
-  atEnd : {p : ℕ} {ts : Ts} → First ((s "}" at p) ∷ ts)
-  atMove : {p : ℕ} {ts : Ts} → First ((w "move" at p) ∷ ts)
-  atGoto : {p : ℕ} {ts : Ts} → First ((w "goto" at p) ∷ ts)
-  atC : {p : ℕ} {ts : Ts} → First ((w "c" at p) ∷ ts)
-  atAccept : {p : ℕ} {ts : Ts} → First ((w "accept" at p) ∷ ts)
-  atReject : {p : ℕ} {ts : Ts} → First ((w "reject" at p) ∷ ts)
-  atIf : {p : ℕ} {ts : Ts} → First ((w "if" at p) ∷ ts)
-  atWhile : {p : ℕ} {ts : Ts} → First ((w "while" at p) ∷ ts)
-  atBranch : {p : ℕ} {ts : Ts} → First ((w "branch" at p) ∷ ts)
+-- the tokens begin with neither `else` nor `also`, as statements up to `}` do
+data Starts : Ts → Type 0 where
+  starts : {u : Token} {p : ℕ} {ts : Ts}
+      → T (unlike Mark.else (classify u))
+      → T (unlike Mark.also (classify u))
+      → Starts ((u at p) ∷ ts)
 
-first : {ts us vs : Ts} {b : Statements} → IsStatements ts b us → Is (s "}") us vs → First ts
-first Grammar.none is = atEnd
-first (Grammar.next (Grammar.plain Grammar.moveBy) b) i = atMove
-first (Grammar.next (Grammar.plain Grammar.moveBack) b) i = atMove
-first (Grammar.next (Grammar.plain Grammar.gotoLend) b) i = atGoto
-first (Grammar.next (Grammar.plain Grammar.gotoRend) b) i = atGoto
-first (Grammar.next (Grammar.plain Grammar.increment) b) i = atC
-first (Grammar.next (Grammar.plain Grammar.decrement) b) i = atC
-first (Grammar.next (Grammar.plain Grammar.add) b) i = atC
-first (Grammar.next (Grammar.plain Grammar.subtract) b) i = atC
-first (Grammar.next Grammar.accept b) i = atAccept
-first (Grammar.next Grammar.reject b) i = atReject
-first (Grammar.next (Grammar.if c d) b) i = atIf
-first (Grammar.next (Grammar.ifElse c d e) b) i = atIf
-first (Grammar.next (Grammar.while c d) b) i = atWhile
-first (Grammar.next (Grammar.choose d) b) i = atWhile
-first (Grammar.next (Grammar.branch d a) b) i = atBranch
+statements-start : {ts us vs : Ts} {b : Statements} → IsStatements ts b us → Is (s "}") us vs → Starts ts
+statements-start Grammar.none is = starts tt tt
+statements-start (Grammar.next (Grammar.plain Grammar.moveBy) b) i = starts tt tt
+statements-start (Grammar.next (Grammar.plain Grammar.moveBack) b) i = starts tt tt
+statements-start (Grammar.next (Grammar.plain Grammar.gotoLend) b) i = starts tt tt
+statements-start (Grammar.next (Grammar.plain Grammar.gotoRend) b) i = starts tt tt
+statements-start (Grammar.next (Grammar.plain Grammar.increment) b) i = starts tt tt
+statements-start (Grammar.next (Grammar.plain Grammar.decrement) b) i = starts tt tt
+statements-start (Grammar.next (Grammar.plain Grammar.add) b) i = starts tt tt
+statements-start (Grammar.next (Grammar.plain Grammar.subtract) b) i = starts tt tt
+statements-start (Grammar.next Grammar.accept b) i = starts tt tt
+statements-start (Grammar.next Grammar.reject b) i = starts tt tt
+statements-start (Grammar.next (Grammar.if c d) b) i = starts tt tt
+statements-start (Grammar.next (Grammar.ifElse c d e) b) i = starts tt tt
+statements-start (Grammar.next (Grammar.while c d) b) i = starts tt tt
+statements-start (Grammar.next (Grammar.choose d) b) i = starts tt tt
+statements-start (Grammar.next (Grammar.branch d a) b) i = starts tt tt
 
 -- before statements no `else` is taken, and no `also`
-no-else : {ts : Ts} → First ts
+no-else : {ts : Ts} → Starts ts
     → (d : ℕ) (st : Stack) (a : Far) (k : Values (orElse d ∷ st) → Program)
     → eat (state (orElse d ∷ st) a k) ts
     ≡ eat (state (statements d ∷ st) a (λ (b, vs). k ((λ c o e. Tree.if c o e then b), vs))) ts
-unfolding eat
-no-else atEnd d st a k = refl
-no-else atMove d st a k = refl
-no-else atGoto d st a k = refl
-no-else atC d st a k = refl
-no-else atAccept d st a k = refl
-no-else atReject d st a k = refl
-no-else atIf d st a k = refl
-no-else atWhile d st a k = refl
-no-else atBranch d st a k = refl
+no-else (starts h g) d st a k = eat-no-else d st a k _ _ _ h
 
-no-also : {ts : Ts} → First ts
+no-also : {ts : Ts} → Starts ts
     → (d n : ℕ) (st : Stack) (a : Far) (k : Values (orAlso d n ∷ st) → Program)
-    → eat (state (orAlso d n ∷ st) a k) ts
-    ≡ eat (state (statements d ∷ st) a (λ (b, vs). k ((Tree.lastArm, b), vs))) ts
-unfolding eat
-no-also atEnd d n st a k = refl
-no-also atMove d n st a k = refl
-no-also atGoto d n st a k = refl
-no-also atC d n st a k = refl
-no-also atAccept d n st a k = refl
-no-also atReject d n st a k = refl
-no-also atIf d n st a k = refl
-no-also atWhile d n st a k = refl
-no-also atBranch d n st a k = refl
+    → eat (state (orAlso d n ∷ st) a k) ts ≡ eat (state (statements d ∷ st) a (λ (b, vs). k ((Tree.lastArm, b), vs))) ts
+no-also (starts h g) d n st a k = eat-no-also d n st a k _ _ _ g
 
 -- before arms an `also` is taken
 an-also : {ts us : Ts} {x : Arms} → IsArms ts x us
@@ -225,7 +199,7 @@ end-eats is d st a k = refl
 mutual
   unfolding eat statementFar
 
-  statement-eats : {ts us : Ts} {x : Statement} → IsStatement ts x us → First us
+  statement-eats : {ts us : Ts} {x : Statement} → IsStatement ts x us → Starts us
       → (d : ℕ) (st : Stack) (a : Far) (k : Values (statements d ∷ st) → Program)
       → eat (state (statements d ∷ st) a k) ts
       ≡ eat (state (statements d ∷ st) (statementFar d x a) (λ (b, vs). k (x then b, vs))) us
@@ -241,7 +215,7 @@ mutual
   statement-eats (Grammar.choose b) f d st a k = block-eats b d _ _ _
   statement-eats (Grammar.branch b x) f d st a k = block-eats b d _ _ _ ∙ arms-eats x f d 1 st _ _
 
-  arms-eats : {ts us : Ts} {x : Arms} → IsArms ts x us → First us
+  arms-eats : {ts us : Ts} {x : Arms} → IsArms ts x us → Starts us
       → (d n : ℕ) (st : Stack) (a : Far) (k : Values (arms d n ∷ st) → Program)
       → eat (state (arms d n ∷ st) a k) ts
       ≡ eat (state (statements d ∷ st) (armsFar d n x a) (λ (b, vs). k ((x, b), vs))) us
@@ -257,7 +231,7 @@ mutual
       → (d : ℕ)
       → Eats (statements d) ts b (statementsFar d b) vs
   statements-eats Grammar.none i d st a k = end-eats i d st a k
-  statements-eats (Grammar.next x b) i d st a k = statement-eats x (first b i) d st a k ∙ statements-eats b i d st _ _
+  statements-eats (Grammar.next x b) i d st a k = statement-eats x (statements-start b i) d st a k ∙ statements-eats b i d st _ _
 
 letters-eats : {ts us vs : Ts} {l : List Letter} → IsLetters ts l us → Is (s "]") us vs → Eats Machine.letters ts l (lettersFar l) vs
 unfolding eat lettersFar
@@ -294,20 +268,12 @@ pub program-eats : {ts : Ts} {x : Program} → IsProgram ts x
 unfolding eat programFar
 program-eats (Grammar.program h b) a k = settings-eats h [] a k ∙ block-eats b 0 [] _ _
 
--- where the machine begins
-abbrev pub begin : State
-begin =
-    state
-    (Machine.program ∷ [])
-    (record { totals = start; seen = [] })
-    (λ (x, vs). x)
-
-abbrev builtOn : (st : Stack) → (Values st → Program) → Option Program
+abbrev pub builtOn : (st : Stack) → (Values st → Program) → Option Program
 builtOn [] k = some (k tt)
 builtOn (x ∷ st) k = none
 
 -- the program that is made, where nothing more is expected
-abbrev built : Option State → Option Program
+abbrev pub built : Option State → Option Program
 built none = none
 built (some x) = builtOn (x .stack) (x .build)
 

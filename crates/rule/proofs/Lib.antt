@@ -1,9 +1,19 @@
 -- Laws of the definitions of a rule.
 pub mod Parse
-pub mod Within
+-- the machine with a stack, and what comes of a text by it
 pub mod Steps
+pub mod Follow
 pub mod Far
 pub mod Complete
+pub mod Tally
+pub mod Sound
+pub mod Places
+pub mod Viable
+pub mod Trace
+pub mod Outcomes
+-- trees without faults
+pub mod Within
+-- what the readers answer, by the machine
 pub mod Front
 pub mod Moves
 pub mod Arms

@@ -10,10 +10,14 @@ use Rattle.text.specs.Token.{Token}
 use Rattle.text.specs.Tokens.{Placed, _at_, Ending}
 use Rattle.rule.specs.Tree.{Program}
 use Rattle.rule.specs.Limits.{Fault, fault}
-use Rattle.rule.specs.Inside.Machine.{Symbol, Stack, Value, Values, Totals, start, Move, move, Outcome, refused, run}
+use Rattle.rule.specs.Inside.Machine.{Symbol, Stack, Value, Values, Totals, start, program, Move, move, Outcome, refused, run}
 
 abbrev pub Ts : Type 0
 Ts = List Placed
+
+-- the tokens begin with this one, and go on with these
+pub data Is (t : Token) : Ts → Ts → Type 0 where
+  is : {p : ℕ} {ts : Ts} → Is t ((t at p) ∷ ts) ts
 
 -- how far the machine has come: the totals, and the limits broken
 pub record Far : Type 0 where
@@ -29,11 +33,16 @@ pub record State : Type 0 where
 abbrev pub state : (st : Stack) → Far → (Values st → Program) → State
 state st s k = record { stack = st; far = s; build = k }
 
+-- where the machine begins: a program is expected
+abbrev pub begin : State
+begin = state (program ∷ []) (record { totals = start; seen = [] }) (λ (x, vs). x)
+
 -- one more fault, if the limit is broken
-abbrev pub noted : Bool → ℕ → ℕ → List Fault → List Fault
+unfoldable pub noted : Bool → ℕ → ℕ → List Fault → List Fault
 noted true n p fs = fs ++ (fault n p ∷ [])
 noted false n p fs = fs
 
+-- how far it comes by a move at a place
 abbrev pub moved : {A : Type 0} → Move A → ℕ → Far → Far
 moved m p s = record { totals = m .totals; seen = noted (m .breaks) (m .fault) p (s .seen) }
 
@@ -42,11 +51,13 @@ abbrev pub _>>=_ : {A B : Type 0} → Option A → (A → Option B) → Option B
 _>>=_ none f = none
 _>>=_ (some a) f = f a
 
-abbrev follow : (x : Symbol) (st : Stack) → Far → (Values (x ∷ st) → Program) → ℕ → Move (Value x) → State
+-- the state behind a move
+abbrev pub follow : (x : Symbol) (st : Stack) → Far → (Values (x ∷ st) → Program) → ℕ → Move (Value x) → State
 follow x st s k p m = state (m .push ++ st) (moved m p s) (λ vs. k (m .makes st vs))
 
+-- the state behind one token, if the token is expected
 unfoldable pub stepOn : (st : Stack) → Far → (Values st → Program) → Placed → Option State
-unfolding move
+unfolding move noted
 stepOn [] s k (u at p) = none
 stepOn (x ∷ st) s k (u at p) = move x (s .totals) (u at p) >>= λ m. some (follow x st s k p m)
 
@@ -54,6 +65,7 @@ unfoldable pub step : State → Placed → Option State
 unfolding stepOn
 step x t = stepOn (x .stack) (x .far) (x .build) t
 
+-- the state behind tokens, if each is expected
 unfoldable pub eat : State → Ts → Option State
 unfolding step
 eat x [] = some x
@@ -62,6 +74,31 @@ eat x (t ∷ ts) = step x t >>= λ y. eat y ts
 -- `run` from a state
 abbrev pub runs : State → Ts → Ending → Outcome
 runs x = run (x .stack) (x .far .totals)
+
+-- what a run does at a token, by the move there
+module _ (x : Symbol) (t : Totals) (u : Token) (p : ℕ) where
+  -- no move: 4 here
+  pub run-stops : move x t (u at p) ≡ none → (st : Stack) (us : Ts) (e : Ending) → run (x ∷ st) t ((u at p) ∷ us) e ≡ refused 4 p
+  unfolding run
+  run-stops h st us e = rw (h, run)
+
+  -- a move that breaks a limit: its number here
+  pub run-breaks : (m : Move (Value x))
+      → move x t (u at p) ≡ some m
+      → m .breaks ≡ true
+      → (st : Stack) (us : Ts) (e : Ending)
+      → run (x ∷ st) t ((u at p) ∷ us) e ≡ refused (m .fault) p
+  unfolding run
+  run-breaks m h b st us e = rw (h, run) (rw b refl)
+
+  -- a move that breaks none: on with what it expects
+  pub run-passes : (m : Move (Value x))
+      → move x t (u at p) ≡ some m
+      → m .breaks ≡ false
+      → (st : Stack) (us : Ts) (e : Ending)
+      → run (x ∷ st) t ((u at p) ∷ us) e ≡ run (m .push ++ st) (m .totals) us e
+  unfolding run
+  run-passes m h b st us e = rw (h, run) (rw b refl)
 
 -- what a step says of a run: no token of the grammar, or no limit broken, or one
 pub data View (x : State) (u : Token) (p : ℕ) : Option State → Type 0 where
@@ -79,15 +116,14 @@ view-limit : (x : Symbol) (st : Stack) (s : Far) (k : Values (x ∷ st) → Prog
     → m .breaks ≡ b
     → move x (s .totals) (u at p) ≡ some m
     → View (state (x ∷ st) s k) u p (some (follow x st s k p m))
-unfolding run
-view-limit x st s k u p m true e h = breaks {y = follow x st s k p m} (m .fault) (rw e refl) (λ us f. rw (h, run) (rw e refl))
-view-limit x st s k u p m false e h = passes {y = follow x st s k p m} (rw e refl) (λ us f. rw (h, run) (rw e refl))
+unfolding noted
+view-limit x st s k u p m true e h = breaks {y = follow x st s k p m} (m .fault) (rw e refl) (run-breaks x (s .totals) u p m h e st)
+view-limit x st s k u p m false e h = passes {y = follow x st s k p m} (rw e refl) (run-passes x (s .totals) u p m h e st)
 
 view-move : (x : Symbol) (st : Stack) (s : Far) (k : Values (x ∷ st) → Program) (u : Token) (p : ℕ) (o : Option (Move (Value x)))
     → move x (s .totals) (u at p) ≡ o
     → View (state (x ∷ st) s k) u p (o >>= λ m. some (follow x st s k p m))
-unfolding run
-view-move x st s k u p none h = stops (λ us f. rw (h, run))
+view-move x st s k u p none h = stops (run-stops x (s .totals) u p h st)
 view-move x st s k u p (some m) h = view-limit x st s k u p m (m .breaks) refl h
 
 view-on : (st : Stack) (s : Far) (k : Values st → Program) (u : Token) (p : ℕ) → View (state st s k) u p (stepOn st s k (u at p))
@@ -112,11 +148,15 @@ eat-append x (t ∷ ts) us = go (step x t) (λ y. eat-append y ts us)
     go none h = refl
     go (some y) h = h y
 
--- the faults that tokens add to those seen stand at tokens
+-- from one state to another these tokens lead past new faults, each at the place of one of them
 pub record Adds (x y : State) (ts : Ts) : Type 0 where
   pub new : List Fault
   pub seen : y .far .seen ≡ x .far .seen ++ new
   pub placed : (f : Fault) → List·Memᴰ f new → (u : Token) × List·Memᴰ (u at f .place) ts
+
+-- the faults seen, behind those known to be seen before
+pub grown : {x y : State} {ts : Ts} {l : List Fault} (a : Adds x y ts) → x .far .seen ≡ l → y .far .seen ≡ l ++ a .new
+grown a h = a .seen ∙ ap (λ (l : List Fault). l ++ a .new) h
 
 adds-none : (x : State) → Adds x x []
 adds-none x = record { new = []; seen = sym (append-nil (x .far .seen)); placed = λ f m. absurd (List·Memᴰ·not-nil m) }
@@ -129,10 +169,15 @@ adds-first : {x y z : State} {u : Token} {p : ℕ} {ts : Ts} (fs : List Fault)
 adds-first {x} {y} {z} {u} {p} {ts} fs h here a =
     record {
       new = fs ++ a .new;
-      seen = a .seen ∙ ap (λ (l : List Fault). l ++ a .new) h ∙ append-assoc (x .far .seen) fs (a .new);
-      placed = λ f m. ⊎-elim (λ n. (u, List·Memᴰ·head (ap (λ (q : ℕ). u at q) (here f n)))) (λ n. (a .placed f n .0, List·Memᴰ·tail (a .placed f n .1))) (List·Memᴰ·append-cases fs m);
+      seen = grown a h ∙ append-assoc (x .far .seen) fs (a .new);
+      placed = λ f m.
+          ⊎-elim
+          (λ n. (u, List·Memᴰ·head (ap (λ (q : ℕ). u at q) (here f n))))
+          (λ n. (a .placed f n .0, List·Memᴰ·tail (a .placed f n .1)))
+          (List·Memᴰ·append-cases fs m);
     }
 
+-- tokens add faults that stand at them
 pub eat-adds : (x y : State) (ts : Ts) → eat x ts ≡ some y → Adds x y ts
 unfolding eat
 eat-adds x y [] e = subst (λ (z : State). Adds x z []) (Option·some-injective x y e) (adds-none x)
@@ -168,4 +213,4 @@ eat-runs x y ((u at p) ∷ ts) us f e h = go (step x (u at p)) (view x u p) (λ 
     go (some z) (passes g r) rest e = r (ts ++ us) f ∙ rest z e
     go (some z) (breaks n g r) rest e =
         let a : Adds z y ts = eat-adds z y ts e in
-        absurd (some-more (x .far .seen) (a .new) (fault n p) (sym (a .seen ∙ ap (λ (l : List Fault). l ++ a .new) g) ∙ h))
+        absurd (some-more (x .far .seen) (a .new) (fault n p) (sym (grown a g) ∙ h))

@@ -4,7 +4,8 @@ use Prim.Native.Nat.{ℕ}
 use mathlib.Core.Path.{_≡_, refl, sym, subst}
 use mathlib.Core.Bool.{Bool, true, false}
 use mathlib.Core.List.{List, [], _∷_}
-use lib.Dec.{T}
+use lib.Dec.{T, eqb, eqb-refl}
+use Rattle.bits.proofs.Tests.{and-of, sameList}
 use Rattle.text.specs.Token as Token
 use Rattle.text.specs.Token.{Token, word, sign, w, s}
 use Rattle.text.proofs.Same.{sameToken, same-token}
@@ -183,3 +184,14 @@ class-of-mark openList = refl
 class-of-mark closeList = refl
 class-of-mark comma = refl
 class-of-mark semicolon = refl
+
+same-list-self : (l : List ℕ) → T (sameList l l)
+same-list-self [] = tt
+same-list-self (b ∷ l) = and-of (eqb b b) (sameList l l) (eqb-refl b) (same-list-self l)
+
+-- a token is the same as itself
+pub same-self : (t : Token) → T (sameToken t t)
+same-self (word a) = same-list-self a
+same-self (Token.number n) = same-list-self n
+same-self (Token.letter b) = eqb-refl b
+same-self (sign a) = same-list-self a

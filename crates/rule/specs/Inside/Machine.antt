@@ -149,7 +149,7 @@ numberOf n p = record { digits = n; place = p }
 -- the choices at a place, with these totals
 module _ (t : Totals) (p : ℕ) where
   -- an `also` behind so many arms
-  abbrev also : ℕ → ℕ → Move (Arms × Statements)
+  abbrev pub also : ℕ → ℕ → Move (Arms × Statements)
   also d n =
       record {
         breaks = leb 8 n;
@@ -167,7 +167,7 @@ module _ (t : Totals) (p : ℕ) where
   aNumber greatest push makes =
       onNumber (λ n. record { breaks = outside greatest n; fault = 7; push = push; totals = t; makes = makes (numberOf n p) })
 
-  abbrev statementChoices : ℕ → List (Choice Statements)
+  abbrev pub statementChoices : ℕ → List (Choice Statements)
   statementChoices d =
       on Mark.ends (free t [] (λ st vs. (done, vs)))
       ∷ on
