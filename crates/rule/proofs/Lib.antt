@@ -23,3 +23,4 @@ pub mod Alphabet
 pub mod Digits
 pub mod Tested
 pub mod Operators
+pub mod Peek

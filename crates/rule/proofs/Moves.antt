@@ -17,6 +17,7 @@ use Rattle.rule.specs.declared.answers.Counts.{Counts}
 use Rattle.rule.specs.declared.answers.Refusal.{Refusal}
 use Rattle.rule.specs.declared.answers.Read.{Read}
 use Rattle.rule.specs.declared.answers.Read.the-variants.{Went, Refused}
+use Rattle.rule.proofs.Steps.{run-stops, run-breaks, run-passes}
 
 -- the tokens from any byte of a text on
 tokens-there : (text : List ℕ) (from : ℕ) → (ts : List Placed) × (e : Ending) × Tokens from (drop from text) ts e
@@ -31,15 +32,15 @@ module _ {text : List ℕ} where
         → pick (choices t p x) k ≡ some m
         → m .breaks ≡ false
         → Comes text (spot from (x ∷ []) t) (spot q (m .push) (m .totals))
-    unfolding run move
-    goes h b =
+    unfolding move
+    goes {m} h b =
         record {
           before = (f .token at p) ∷ f .after;
           after = f .after;
           ending = f .ending;
           here = f .all;
           there = f .rest;
-          same = λ st. rw (f .is, h, b, run);
+          same = λ st. run-passes x t (f .token) p m (ap (pick (choices t p x)) (f .is) ∙ h) b st (f .after) (f .ending);
           forth = omega (arith, f .back, f .some);
         }
 
@@ -47,23 +48,23 @@ module _ {text : List ℕ} where
         → pick (choices t p x) k ≡ some m
         → m .breaks ≡ true
         → Stops text (spot from (x ∷ []) t) (record { number = m .fault; place = p })
-    unfolding run move
-    breaks h b =
+    unfolding move
+    breaks {m} h b =
         record {
           before = (f .token at p) ∷ f .after;
           ending = f .ending;
           here = f .all;
-          same = λ st. rw (f .is, h, b, run);
+          same = λ st. run-breaks x t (f .token) p m (ap (pick (choices t p x)) (f .is) ∙ h) b st (f .after) (f .ending);
         }
 
     pub misses : pick (choices t p x) k ≡ none → Stops text (spot from (x ∷ []) t) (record { number = 4; place = p })
-    unfolding run move
+    unfolding move
     misses h =
         record {
           before = (f .token at p) ∷ f .after;
           ending = f .ending;
           here = f .all;
-          same = λ st. rw (f .is, h, run);
+          same = λ st. run-stops x t (f .token) p (ap (pick (choices t p x)) (f .is) ∙ h) st (f .after) (f .ending);
         }
 
   -- more is expected behind

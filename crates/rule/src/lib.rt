@@ -4,3 +4,4 @@ mod atoms;
 mod conditions;
 mod letters;
 mod numbers;
+mod plain;
