@@ -66,7 +66,7 @@ use Rattle.compiler.specs.Construction.{
   programPart,
   construct,
 }
-use Rattle.compiler.specs.Counts.{
+use Rattle.rule.specs.Counts.{
   conditionStates,
   statementStates,
   statementsStates,

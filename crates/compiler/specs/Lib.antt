@@ -1,5 +1,4 @@
--- What table a program has, how many states and rows that are, and what compiling promises.
+-- What table a program has, and what compiling promises.
 pub mod Construction
-pub mod Counts
 pub mod Compile
 pub mod Line

@@ -49,7 +49,7 @@ use Rattle.rule.specs.Tree.{
   Program,
 }
 use Rattle.rule.specs.Limits.{isIn}
-use Rattle.rule.proofs.Machine.{counted, withLetter, outside, excess}
+use Rattle.rule.specs.Inside.Machine.{counted, withLetter, outside, excess}
 use Rattle.rule.proofs.Steps.{Far, noted}
 
 -- so many states and rows more

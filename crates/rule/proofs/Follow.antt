@@ -10,8 +10,8 @@ use Rattle.text.specs.Tokens.{_at_, Ending, ends, broken}
 use Rattle.text.proofs.Same.{sameToken}
 use Rattle.rule.specs.Tree as Tree
 use Rattle.rule.specs.Tree.{Program, _then_}
-use Rattle.rule.proofs.Class.{Mark, spell, Class, mark, number, letter, other, classify}
-use Rattle.rule.proofs.Machine.{
+use Rattle.rule.specs.Inside.Class.{Mark, spell, Class, mark, number, letter, other, classify}
+use Rattle.rule.specs.Inside.Machine.{
   Symbol,
   statements,
   orElse,

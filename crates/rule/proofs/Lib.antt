@@ -1,12 +1,9 @@
 -- Laws of the definitions of a rule.
--- a machine with a stack, and what comes of a text by it
-pub mod Class
-pub mod Machine
+-- the machine with a stack, and what comes of a text by it
 pub mod Steps
 pub mod Follow
 pub mod Far
 pub mod Complete
-pub mod Counting
 pub mod Tally
 pub mod Sound
 pub mod Places
@@ -15,3 +12,14 @@ pub mod Trace
 pub mod Outcomes
 -- trees without faults
 pub mod Within
+-- what the readers answer, by the machine
+pub mod Front
+pub mod Moves
+pub mod Arms
+pub mod Missed
+pub mod Exact
+pub mod Alphabet
+pub mod Digits
+pub mod Tested
+pub mod Operators
+pub mod Peek

@@ -26,8 +26,8 @@ use Rattle.rule.specs.Tree.{Program, letterBytes}
 use Rattle.rule.specs.Grammar.{IsProgram}
 use Rattle.rule.specs.Limits.{Fault, fault, faults}
 use Rattle.rule.specs.Faults.{GoesOn, Clean, Breaks, FirstFault, noToken, notHere, early, limit, Reads}
-use Rattle.rule.proofs.Counting.{programStates, programRows}
-use Rattle.rule.proofs.Machine.{Stack, Values, program, start, atEnd, Outcome, taken, refused, run, outcome}
+use Rattle.rule.specs.Counts.{programStates, programRows}
+use Rattle.rule.specs.Inside.Machine.{Stack, Values, program, start, atEnd, Outcome, taken, refused, run, outcome}
 use Rattle.rule.proofs.Steps.{
   Ts,
   State,

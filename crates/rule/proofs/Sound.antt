@@ -13,9 +13,9 @@ use Rattle.rule.specs.Tree as Tree
 use Rattle.rule.specs.Tree.{Number, Letter, Condition, Plain, Statement, Statements, Program, _then_}
 use Rattle.rule.specs.Grammar as Grammar
 use Rattle.rule.specs.Grammar.{IsSought, IsAtom, loosest, middle, tightest, IsCondition, IsPlain, IsStatement, IsArms, IsBlock, IsStatements, IsLetters, IsAlphabet, IsDecrement, IsSettings, IsProgram}
-use Rattle.rule.proofs.Class.{Mark, spell, Class, mark, number, letter, other, tokenOf, classify, token-of-class}
-use Rattle.rule.proofs.Machine as Machine
-use Rattle.rule.proofs.Machine.{Symbol, Stack, Value, Values, Totals, Move, Choice, on, onNumber, onLetter, along, alongChoice, also, statementChoices, choices, take, pick, move}
+use Rattle.rule.specs.Inside.Class.{Mark, spell, Class, mark, number, letter, other, tokenOf, classify, token-of-class}
+use Rattle.rule.specs.Inside.Machine as Machine
+use Rattle.rule.specs.Inside.Machine.{Symbol, Stack, Value, Values, Totals, Move, Choice, on, onNumber, onLetter, along, alongChoice, also, statementChoices, choices, take, pick, move}
 use Rattle.rule.proofs.Steps.{Ts, Is, is, Far, State, state, begin, follow, eat, _>>=_}
 
 data IsNumber : Ts → Number → Ts → Type 0 where

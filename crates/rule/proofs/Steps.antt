@@ -10,7 +10,7 @@ use Rattle.text.specs.Token.{Token}
 use Rattle.text.specs.Tokens.{Placed, _at_, Ending}
 use Rattle.rule.specs.Tree.{Program}
 use Rattle.rule.specs.Limits.{Fault, fault}
-use Rattle.rule.proofs.Machine.{Symbol, Stack, Value, Values, Totals, start, program, Move, move, Outcome, refused, run}
+use Rattle.rule.specs.Inside.Machine.{Symbol, Stack, Value, Values, Totals, start, program, Move, move, Outcome, refused, run}
 
 abbrev pub Ts : Type 0
 Ts = List Placed

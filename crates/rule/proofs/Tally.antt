@@ -10,7 +10,7 @@ use lib.Dec.{leb}
 use Rattle.rule.specs.Tree as Tree
 use Rattle.rule.specs.Tree.{Number, Letter, Sought, Atom, Condition, Plain, Statement, Statements, Arms, Program, done, _then_, letterBytes}
 use Rattle.rule.specs.Limits.{Fault, faultIf, tooDeep, isIn, letterFaults, numberFaults, soughtFaults, atomFaults, conditionFaults, plainFaults, statementFaults, statementsFaults, armsFaults, faults}
-use Rattle.rule.proofs.Counting.{
+use Rattle.rule.specs.Counts.{
   conditionStates,
   statementStates,
   statementsStates,
@@ -23,7 +23,7 @@ use Rattle.rule.proofs.Counting.{
   armsRows,
   programRows,
 }
-use Rattle.rule.proofs.Machine.{start, outside, excess}
+use Rattle.rule.specs.Inside.Machine.{start, outside, excess}
 use Rattle.rule.proofs.Steps.{Far, noted}
 use Rattle.rule.proofs.Far.{
   counts,

@@ -6,7 +6,7 @@ use mathlib.Core.List.{List, [], _∷_, _++_, append-nil, append-assoc, cons≢n
 use Rattle.text.specs.Token.{Token}
 use Rattle.text.specs.Tokens.{Placed, _at_, Ending, ends, broken}
 use Rattle.rule.specs.Limits.{Fault, fault}
-use Rattle.rule.proofs.Machine.{Stack, atEnd, Outcome, taken, refused, run}
+use Rattle.rule.specs.Inside.Machine.{Stack, atEnd, Outcome, taken, refused, run}
 use Rattle.rule.proofs.Steps.{
   Ts,
   State,

@@ -8,9 +8,9 @@ use Rattle.text.specs.Token.{Token, w, s}
 use Rattle.text.proofs.Runs.{T-true}
 use Rattle.text.proofs.Same.{sameToken}
 use Rattle.rule.specs.Tree.{Program}
-use Rattle.rule.proofs.Class.{Mark, spell, classify, class-of-mark, same-self}
-use Rattle.rule.proofs.Machine as Machine
-use Rattle.rule.proofs.Machine.{Symbol, Stack, Values, Move, on, pick}
+use Rattle.rule.specs.Inside.Class.{Mark, spell, classify, class-of-mark, same-self}
+use Rattle.rule.specs.Inside.Machine as Machine
+use Rattle.rule.specs.Inside.Machine.{Symbol, Stack, Values, Move, on, pick}
 use Rattle.rule.proofs.Steps.{Far, state, eat}
 use Rattle.rule.proofs.Places.{placed}
 use Rattle.rule.proofs.Sound.{Ended}

@@ -1,1 +1,7 @@
 // Reading a rule: its grammar, its limits, and what it means.
+mod answers;
+mod atoms;
+mod conditions;
+mod letters;
+mod numbers;
+mod plain;

@@ -22,7 +22,7 @@ use Rattle.rule.specs.Tree.{Program}
 use Rattle.rule.specs.Grammar.{IsProgram}
 use Rattle.rule.specs.Limits.{faults}
 use Rattle.rule.specs.Faults.{FirstFault, Reads}
-use Rattle.rule.proofs.Machine.{Outcome, taken, refused, outcome}
+use Rattle.rule.specs.Inside.Machine.{Outcome, taken, refused, outcome}
 use Rattle.rule.proofs.Steps.{begin, eat}
 use Rattle.rule.proofs.Complete.{built}
 use Rattle.rule.proofs.Outcomes.{built-program, refused-fault}

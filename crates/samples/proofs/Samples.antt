@@ -4,7 +4,7 @@ use Rattle.table.specs.Image.{encode, field, twoBytes, rowBytes, rowsBytes, fla
 use Rattle.machine.specs.Cell.{symbolOn, moved}
 use Rattle.machine.specs.Step.{symbolFits, counterFits, changed, rowFits}
 use Rattle.text.proofs.Scan.{scan}
-use Rattle.rule.proofs.Machine.{outcome}
+use Rattle.rule.specs.Inside.Machine.{outcome}
 use Rattle.rule.proofs.Steps.{eat}
 use Rattle.rule.specs.Tree.{letterBytes}
 use Rattle.rule.specs.Limits.{

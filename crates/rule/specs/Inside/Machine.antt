@@ -12,7 +12,7 @@ use Rattle.text.proofs.Same.{sameToken}
 use Rattle.rule.specs.Tree as Tree
 use Rattle.rule.specs.Tree.{Number, Letter, Sought, Atom, Condition, Plain, Statement, Statements, Arms, Program, done, _then_}
 use Rattle.rule.specs.Limits.{isIn, inForm, valueFrom}
-use Rattle.rule.proofs.Class.{Mark, spell, Class, mark, classify}
+use Rattle.rule.specs.Inside.Class.{Mark, spell, Class, mark, classify}
 
 -- what is expected; each symbol takes at least one token
 pub data Symbol : Type 0 where

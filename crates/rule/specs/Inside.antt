@@ -1,0 +1,5 @@
+-- What the readers promise each other, by a machine with a stack. No caller relies on any of it.
+pub mod Class
+pub mod Machine
+pub mod Answers
+pub mod Atoms
