@@ -24,3 +24,4 @@ pub mod Digits
 pub mod Tested
 pub mod Operators
 pub mod Peek
+pub mod Branches

@@ -5,3 +5,4 @@ mod conditions;
 mod letters;
 mod numbers;
 mod plain;
+mod statements;

@@ -91,3 +91,17 @@ alphabetOf l = take (l .count) (l .bytes)
 pub record Sized (l : Letters) : Type 0 where
   pub few : l .count ≤ 16
   pub room : length (l .bytes) ≡ 16
+
+abbrev pub Past : ℕ → Read → Type 0
+Past from (Went to counts) = from < to
+Past from (Refused r) = Unit {0}
+
+-- and it reads something
+pub record Eats (text : List ℕ) (s : Spot) (x : Stack) (alphabet : List ℕ) (r : Read) : Type 0 where
+  pub answers : Answers text s x alphabet r
+  pub past : Past (s .from) r
+
+-- behind so many arms, and this one the last, comes a token that is no `also`
+pub record LastArm (token : Token) (arm : Read) (arms : ℕ) (r : Read) : Type 0 where
+  pub few : arms ≡ 1 → r ≡ Refused (refusalOf token)
+  pub enough : ¬ (arms ≡ 1) → r ≡ arm
