@@ -25,3 +25,5 @@ pub mod Tested
 pub mod Operators
 pub mod Peek
 pub mod Branches
+pub mod Listed
+pub mod Whole
