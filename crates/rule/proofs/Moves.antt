@@ -262,3 +262,7 @@ ready-on f h = ready-more f h (omega arith) (omega arith)
 -- totals with what a move counts
 pub counts-plus : {l k : Counts} (a : List ℕ) → l ≡ k → totals a k ≡ totals a l
 counts-plus a e = ap (totals a) (sym e)
+
+-- at a text's first byte there is state 0
+pub ready-start : {text : List ℕ} → length text ≤ 4096 → Ready text 0 (record { states = 1; rows = 0 })
+ready-start h = record { short = h; inside = omega arith; states = omega arith; rows = omega arith }

@@ -40,12 +40,12 @@ module _ {text : List ℕ} where
   pub stopped : {r : Refusal} → Stops text (spot 0 (program ∷ []) start) r → outcome text ≡ refused (r .number) (r .place)
   stopped h = outcome-is (h .here) ∙ h .same []
 
-  pub refused-outcome : {x : _} {a : List ℕ} {u : Read} {r : Refusal}
-      → Answers text (spot 0 (program ∷ []) start) x a u
+  pub refused-outcome : {u : Read} {r : Refusal}
+      → Answers text (spot 0 (program ∷ []) start) [] [] u
       → u ≡ Refused r
       → outcome text ≡ outcomeOf u
-  refused-outcome {x} {a} h e =
-      stopped (subst (λ (v : Read). Answers text (spot 0 (program ∷ []) start) x a v) e h .right) ∙ ap outcomeOf (sym e)
+  refused-outcome h e =
+      stopped (subst (λ (v : Read). Answers text (spot 0 (program ∷ []) start) [] [] v) e h .right) ∙ ap outcomeOf (sym e)
 
   module _ {q : ℕ} {t : Totals} {k : Token} (h : Comes text (spot 0 (program ∷ []) start) (spot q [] t)) (f : First text q k) where
     comes-to : outcome text ≡ run [] t (f .tokens) (f .ending)

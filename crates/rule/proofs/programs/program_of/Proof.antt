@@ -1,80 +1,86 @@
+-- `rule::programs::program_of` meets its contract.
+use native.Mathlib.Omega.{arith}
+use mathlib.Core.List.{[]}
+use Rattle.rule.specs.Inside.Answers.{alphabetOf}
+use Rattle.rule.proofs.Moves.{went, went-ready, comes-then, then, stop}
+use Rattle.rule.proofs.Whole.{refused-outcome, whole, more}
 use borrow.Author.Needs.{needs}
 use Rattle.rule.proofs.programs.program_of.Statement.{statement}
 use Rattle.rule.proofs.programs.program_of.Tie as tie
-use Rattle.rule.proofs.programs.program_of.Reads as reads
-use Rattle.rule.proofs.programs.program_of.Lts as lts
-use Rattle.rule.proofs.answers.refuse.Reads as refuse-reads
-use Rattle.rule.proofs.programs.head_at.Reads as head-at-reads
-use Rattle.rule.proofs.settings.settings_of.Reads as settings-of-reads
-use Rattle.rule.proofs.statements.block_at.Reads as block-at-reads
-use Rattle.text.proofs.token_at.Reads as token-at-reads
 
--- src/programs.rt:57:9
 settings-of-requires : tie.Need-settings-of-requires
 settings-of-requires c κs = search needs
 
--- src/programs.rt:60:22
 enum-known-read : tie.Need-enum-known-read
 enum-known-read c = search needs
 
--- src/programs.rt:61:9
 enum-told : tie.Need-enum-told
 enum-told c = search needs
 
--- src/programs.rt:61:9
 returns : tie.Need-returns
-returns c = ?
+returns c = refused-outcome (stop [] (c .before .before .before .settings-of .ensures .answers) (c .enum-told .given .1)) (c .enum-told .given .1)
 
--- src/programs.rt:63:9
 head-at-requires : tie.Need-head-at-requires
-head-at-requires c κs = ?
+head-at-requires c κs = went-ready (c .before .before .before .before .settings-of .ensures .answers) (c .before .read .given .1)
 
--- src/programs.rt:64:26
 enum-known-head : tie.Need-enum-known-head
 enum-known-head c = search needs
 
--- src/programs.rt:65:9
 enum-told-2 : tie.Need-enum-told-2
 enum-told-2 c = search needs
 
--- src/programs.rt:65:9
 returns-2 : tie.Need-returns-2
-returns-2 c = ?
+returns-2 c = 
+    refused-outcome
+    (then _ (c .before .before .before .before .before .before .before .settings-of .ensures .answers) (c .before .before .before .before .read .given .1) (stop _ (c .before .before .head-at .ensures (alphabetOf (c .before .before .before .before .before .before .before .settings-of .result .letters))) (c .enum-told2 .given .1)))
+    (c .enum-told2 .given .1)
 
--- src/programs.rt:67:9
 block-at-requires : tie.Need-block-at-requires
-block-at-requires c κs = ?
+block-at-requires c κs = (went-ready (c .before .before .before .head-at .ensures (alphabetOf (c .before .before .before .before .before .before .before .before .settings-of .result .letters))) (c .before .head .given .1), (c .before .before .before .before .before .before .before .before .settings-of .ensures .sized, omega arith))
 
--- src/programs.rt:68:26
 enum-known-body : tie.Need-enum-known-body
 enum-known-body c = search needs
 
--- src/programs.rt:69:9
 enum-told-3 : tie.Need-enum-told-3
 enum-told-3 c = search needs
 
--- src/programs.rt:69:9
 returns-3 : tie.Need-returns-3
-returns-3 c = ?
+returns-3 c = 
+    refused-outcome
+    (then
+    _
+    (c .before .before .before .before .before .before .before .before .before .before .before .settings-of .ensures .answers)
+    (c .before .before .before .before .before .before .before .before .read .given .1)
+    (then _ (c .before .before .before .before .before .before .head-at .ensures (alphabetOf (c .before .before .before .before .before .before .before .before .before .before .before .settings-of .result .letters))) (c .before .before .before .before .head .given .1) (stop _ (c .before .before .block-at .ensures) (c .enum-told3 .given .1))))
+    (c .enum-told3 .given .1)
 
--- src/programs.rt:71:9
 token-at-requires : tie.Need-token-at-requires
 token-at-requires c κs = search needs
 
 enum-told-4 : tie.Need-enum-told-4
 enum-told-4 c = search needs
 
--- src/programs.rt:73:30
 refuse-requires : tie.Need-refuse-requires
 refuse-requires c κs = search needs
 
--- src/programs.rt:73:9
 returns-4 : tie.Need-returns-4
-returns-4 c = ?
+returns-4 c = 
+    more
+    (comes-then
+    (went _ (c .before .before .before .before .before .before .before .before .before .before .before .before .before .before .before .settings-of .ensures .answers) (c .before .before .before .before .before .before .before .before .before .before .before .before .read .given .1))
+    (comes-then (went _ (c .before .before .before .before .before .before .before .before .before .before .head-at .ensures (alphabetOf (c .before .before .before .before .before .before .before .before .before .before .before .before .before .before .before .settings-of .result .letters))) (c .before .before .before .before .before .before .before .before .head .given .1)) (went _ (c .before .before .before .before .before .before .block-at .ensures) (c .before .before .before .before .body .given .1))))
+    (c .before .before .token-at .ensures)
+    (c .before .match4 .keys2)
+    (c .refuse .ensures)
 
--- src/programs.rt:53:1
 returns-5 : tie.Need-returns-5
-returns-5 c = ?
+returns-5 c = 
+    whole
+    (comes-then
+    (went _ (c .before .before .before .before .before .before .before .before .before .before .before .before .before .before .before .settings-of .ensures .answers) (c .before .before .before .before .before .before .before .before .before .before .before .before .read .given .1))
+    (comes-then (went _ (c .before .before .before .before .before .before .before .before .before .before .head-at .ensures (alphabetOf (c .before .before .before .before .before .before .before .before .before .before .before .before .before .before .before .settings-of .result .letters))) (c .before .before .before .before .before .before .before .before .head .given .1)) (went _ (c .before .before .before .before .before .before .block-at .ensures) (c .before .before .before .before .body .given .1))))
+    (c .before .before .token-at .ensures)
+    (c .enum-told4 .given .1)
 
 pub program-of-spec : {M : Type 1} → statement M
 program-of-spec =

@@ -1,76 +1,74 @@
+-- `rule::settings::decrement_first_at` meets its contract.
+use mathlib.Core.Path.{refl}
+use mathlib.Core.List.{[]}
+use Rattle.rule.proofs.Front.{told-word}
+use Rattle.rule.proofs.Moves.{went-ready, step, then, stop, ready-on}
+use Rattle.rule.proofs.Missed.{refuses, refuses-word}
+use Rattle.rule.proofs.Listed.{without}
 use borrow.Author.Needs.{needs}
 use Rattle.rule.proofs.settings.decrement_first_at.Statement.{statement}
 use Rattle.rule.proofs.settings.decrement_first_at.Tie as tie
-use Rattle.rule.proofs.settings.decrement_first_at.Reads as reads
-use Rattle.rule.proofs.settings.decrement_first_at.Lts as lts
-use Rattle.rule.proofs.answers.refuse.Reads as refuse-reads
-use Rattle.rule.proofs.settings.alphabet_at.Reads as alphabet-at-reads
-use Rattle.rule.proofs.settings.no_letters.Reads as no-letters-reads
-use Rattle.rule.proofs.settings.truth_at.Reads as truth-at-reads
-use Rattle.text.proofs.token_at.Reads as token-at-reads
 
--- src/settings.rt:141:9
 truth-at-requires : tie.Need-truth-at-requires
 truth-at-requires c κs = search needs
 
--- src/settings.rt:142:26
 enum-known-read : tie.Need-enum-known-read
 enum-known-read c = search needs
 
--- src/settings.rt:143:9
 enum-told : tie.Need-enum-told
 enum-told c = search needs
 
--- src/settings.rt:143:9
 no-letters-requires : tie.Need-no-letters-requires
 no-letters-requires c κs = search needs
 
--- src/settings.rt:143:9
 returns : tie.Need-returns
-returns c = ?
+returns c = without (c .no-letters .ensures) (λ b. stop _ (c .before .before .before .truth-at .ensures []) (c .before .enum-told .given .1))
 
--- src/settings.rt:145:9
 token-at-requires : tie.Need-token-at-requires
 token-at-requires c κs = search needs
 
--- src/settings.rt:146:30
 enum-known-token : tie.Need-enum-known-token
 enum-known-token c = search needs
 
--- src/settings.rt:147:41
 refuse-requires : tie.Need-refuse-requires
 refuse-requires c κs = search needs
 
--- src/settings.rt:147:9
 no-letters-requires-2 : tie.Need-no-letters-requires-2
 no-letters-requires-2 c κs = search needs
 
--- src/settings.rt:147:9
 returns-2 : tie.Need-returns-2
-returns-2 c = ?
+returns-2 c = without (c .no-letters2 .ensures) (λ b. then _ (c .before .before .before .before .before .before .before .truth-at .ensures []) (c .before .before .before .before .before .read .given .1) (refuses (c .before .before .before .token-at .ensures) (c .before .before .match2 .keys2) (c .before .refuse .ensures)))
 
 enum-told-2 : tie.Need-enum-told-2
 enum-told-2 c = search needs
 
--- src/settings.rt:150:41
 refuse-requires-2 : tie.Need-refuse-requires-2
 refuse-requires-2 c κs = search needs
 
--- src/settings.rt:150:9
 no-letters-requires-3 : tie.Need-no-letters-requires-3
 no-letters-requires-3 c κs = search needs
 
--- src/settings.rt:150:9
 returns-3 : tie.Need-returns-3
-returns-3 c = ?
+returns-3 c = 
+    without
+    (c .no-letters3 .ensures)
+    (λ b. then _ (c .before .before .before .before .before .before .before .before .before .before .truth-at .ensures []) (c .before .before .before .before .before .before .before .before .read .given .1) (refuses-word (c .before .before .before .before .before .before .token-at .ensures) (c .before .before .before .before .token .given .1) (c .before .before .match3 .keys2) (c .before .refuse2 .ensures)))
 
--- src/settings.rt:152:5
 alphabet-at-requires : tie.Need-alphabet-at-requires
-alphabet-at-requires c κs = ?
+alphabet-at-requires c κs = ready-on (told-word (c .before .before .before .before .before .token-at .ensures) (c .before .before .before .token .given .1) (c .enum-told2 .given .1)) (went-ready (c .before .before .before .before .before .before .before .before .before .truth-at .ensures []) (c .before .before .before .before .before .before .before .read .given .1))
 
--- src/settings.rt:137:1
 returns-4 : tie.Need-returns-4
-returns-4 c = ?
+returns-4 c = 
+    let second = c .alphabet-at .ensures in
+    record {
+      answers =
+          then
+          _
+          (c .before .before .before .before .before .before .before .before .before .before .truth-at .ensures [])
+          (c .before .before .before .before .before .before .before .before .read .given .1)
+          (step (told-word (c .before .before .before .before .before .before .token-at .ensures) (c .before .before .before .before .token .given .1) (c .before .enum-told2 .given .1)) refl refl refl (second .answers));
+      sized = second .sized;
+    }
 
 pub decrement-first-at-spec : {M : Type 1} → statement M
 decrement-first-at-spec =

@@ -1,69 +1,70 @@
+-- `rule::settings::settings_of` meets its contract.
+use mathlib.Core.Path.{refl}
+use Rattle.rule.proofs.Front.{told-word}
+use Rattle.rule.proofs.Moves.{step, over, ready-on, ready-start}
+use Rattle.rule.proofs.Missed.{refuses, refuses-word}
+use Rattle.rule.proofs.Listed.{without}
 use borrow.Author.Needs.{needs}
 use Rattle.rule.proofs.settings.settings_of.Statement.{statement}
 use Rattle.rule.proofs.settings.settings_of.Tie as tie
-use Rattle.rule.proofs.settings.settings_of.Reads as reads
-use Rattle.rule.proofs.settings.settings_of.Lts as lts
-use Rattle.rule.proofs.answers.refuse.Reads as refuse-reads
-use Rattle.rule.proofs.settings.alphabet_first_at.Reads as alphabet-first-at-reads
-use Rattle.rule.proofs.settings.decrement_first_at.Reads as decrement-first-at-reads
-use Rattle.rule.proofs.settings.no_letters.Reads as no-letters-reads
-use Rattle.text.proofs.token_at.Reads as token-at-reads
 
--- src/settings.rt:161:9
 token-at-requires : tie.Need-token-at-requires
 token-at-requires c κs = search needs
 
--- src/settings.rt:162:30
 enum-known-token : tie.Need-enum-known-token
 enum-known-token c = search needs
 
--- src/settings.rt:163:41
 refuse-requires : tie.Need-refuse-requires
 refuse-requires c κs = search needs
 
--- src/settings.rt:163:9
 no-letters-requires : tie.Need-no-letters-requires
 no-letters-requires c κs = search needs
 
--- src/settings.rt:163:9
 returns : tie.Need-returns
-returns c = ?
+returns c = without (c .no-letters .ensures) (λ b. refuses (c .before .before .before .token-at .ensures) (c .before .before .match .keys2) (c .before .refuse .ensures))
 
--- src/settings.rt:166:27
 enum-told : tie.Need-enum-told
 enum-told c = search needs
 
--- src/settings.rt:166:27
 alphabet-first-at-requires : tie.Need-alphabet-first-at-requires
-alphabet-first-at-requires c κs = ?
+alphabet-first-at-requires c κs = 
+    ready-on
+    (told-word (c .before .before .before .before .before .token-at .ensures) (c .before .before .before .token .given .1) (c .enum-told .given .1))
+    (ready-start (c .before .before .before .before .before .before .before .pre))
 
--- src/settings.rt:167:29
 enum-told-2 : tie.Need-enum-told-2
 enum-told-2 c = search needs
 
--- src/settings.rt:167:29
 decrement-first-at-requires : tie.Need-decrement-first-at-requires
-decrement-first-at-requires c κs = ?
+decrement-first-at-requires c κs = 
+    ready-on
+    (told-word (c .before .before .before .before .before .token-at .ensures) (c .before .before .before .token .given .1) (c .enum-told2 .given .1))
+    (ready-start (c .before .before .before .before .before .before .before .pre))
 
--- src/settings.rt:168:39
 refuse-requires-2 : tie.Need-refuse-requires-2
 refuse-requires-2 c κs = search needs
 
--- src/settings.rt:168:14
 no-letters-requires-2 : tie.Need-no-letters-requires-2
 no-letters-requires-2 c κs = search needs
 
--- src/settings.rt:156:1
 returns-2 : tie.Need-returns-2
-returns-2 c = ?
+returns-2 c = 
+    let rest = c .alphabet-first-at .ensures in
+    record {
+      answers = step (told-word (c .before .before .before .before .before .before .token-at .ensures) (c .before .before .before .before .token .given .1) (c .before .enum-told .given .1)) refl refl refl (over _ (rest .answers));
+      sized = rest .sized;
+    }
 
--- src/settings.rt:156:1
 returns-3 : tie.Need-returns-3
-returns-3 c = ?
+returns-3 c = 
+    let rest = c .decrement-first-at .ensures in
+    record {
+      answers = step (told-word (c .before .before .before .before .before .before .token-at .ensures) (c .before .before .before .before .token .given .1) (c .before .enum-told2 .given .1)) refl refl refl (over _ (rest .answers));
+      sized = rest .sized;
+    }
 
--- src/settings.rt:156:1
 returns-4 : tie.Need-returns-4
-returns-4 c = ?
+returns-4 c = without (c .no-letters2 .ensures) (λ b. refuses-word (c .before .before .before .before .before .before .token-at .ensures) (c .before .before .before .before .token .given .1) (c .before .before .match2 .keys3) (c .before .refuse2 .ensures))
 
 pub settings-of-spec : {M : Type 1} → statement M
 settings-of-spec =

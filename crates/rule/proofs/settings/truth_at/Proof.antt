@@ -1,75 +1,79 @@
+-- `rule::settings::truth_at` meets its contract.
+use mathlib.Core.Path.{refl}
+use mathlib.Core.List.{List, []}
+use Rattle.rule.specs.Inside.Class.{Mark}
+use Rattle.rule.proofs.Front.{told-word}
+use Rattle.rule.proofs.Moves.{went-ready, step, then, stop, ready-on}
+use Rattle.rule.proofs.Missed.{refuses, refuses-word}
 use borrow.Author.Needs.{needs}
 use Rattle.rule.proofs.settings.truth_at.Statement.{statement}
 use Rattle.rule.proofs.settings.truth_at.Tie as tie
-use Rattle.rule.proofs.settings.truth_at.Reads as reads
-use Rattle.rule.proofs.settings.truth_at.Lts as lts
-use Rattle.rule.proofs.answers.refuse.Reads as refuse-reads
-use Rattle.rule.proofs.answers.sign_at.Reads as sign-at-reads
-use Rattle.text.proofs.token_at.Reads as token-at-reads
 
--- src/settings.rt:100:9
 sign-at-requires : tie.Need-sign-at-requires
 sign-at-requires c κs = search needs
 
--- src/settings.rt:101:26
 enum-known-read : tie.Need-enum-known-read
 enum-known-read c = search needs
 
--- src/settings.rt:102:9
 enum-told : tie.Need-enum-told
 enum-told c = search needs
 
--- src/settings.rt:102:9
 returns : tie.Need-returns
-returns c = ?
+returns c = λ a. stop _ (c .before .before .sign-at .ensures Mark.equals a refl) (c .enum-told .given .1)
 
--- src/settings.rt:104:9
 token-at-requires : tie.Need-token-at-requires
 token-at-requires c κs = search needs
 
--- src/settings.rt:105:30
 enum-known-token : tie.Need-enum-known-token
 enum-known-token c = search needs
 
--- src/settings.rt:106:30
 refuse-requires : tie.Need-refuse-requires
 refuse-requires c κs = search needs
 
--- src/settings.rt:106:9
 returns-2 : tie.Need-returns-2
-returns-2 c = ?
+returns-2 c = λ a. then _ (c .before .before .before .before .before .before .sign-at .ensures Mark.equals a refl) (c .before .before .before .before .read .given .1) (refuses (c .before .before .token-at .ensures) (c .before .match2 .keys2) (c .refuse .ensures))
 
--- src/settings.rt:109:23
 enum-told-2 : tie.Need-enum-told-2
 enum-told-2 c = search needs
 
--- src/settings.rt:109:23
 sign-at-requires-2 : tie.Need-sign-at-requires-2
-sign-at-requires-2 c κs = ?
+sign-at-requires-2 c κs = 
+    ready-on
+    (told-word (c .before .before .before .before .before .token-at .ensures) (c .before .before .before .token .given .1) (c .enum-told2 .given .1))
+    (went-ready (c .before .before .before .before .before .before .before .before .before .sign-at .ensures Mark.equals [] refl) (c .before .before .before .before .before .before .before .read .given .1))
 
--- src/settings.rt:110:24
 enum-told-3 : tie.Need-enum-told-3
 enum-told-3 c = search needs
 
--- src/settings.rt:110:24
 sign-at-requires-3 : tie.Need-sign-at-requires-3
-sign-at-requires-3 c κs = ?
+sign-at-requires-3 c κs = 
+    ready-on
+    (told-word (c .before .before .before .before .before .token-at .ensures) (c .before .before .before .token .given .1) (c .enum-told3 .given .1))
+    (went-ready (c .before .before .before .before .before .before .before .before .before .sign-at .ensures Mark.equals [] refl) (c .before .before .before .before .before .before .before .read .given .1))
 
--- src/settings.rt:111:28
 refuse-requires-2 : tie.Need-refuse-requires-2
 refuse-requires-2 c κs = search needs
 
--- src/settings.rt:96:1
 returns-3 : tie.Need-returns-3
-returns-3 c = ?
+returns-3 c = 
+    λ a.
+    then
+    _
+    (c .before .before .before .before .before .before .before .before .before .before .sign-at .ensures Mark.equals a refl)
+    (c .before .before .before .before .before .before .before .before .read .given .1)
+    (step (told-word (c .before .before .before .before .before .before .token-at .ensures) (c .before .before .before .before .token .given .1) (c .before .enum-told2 .given .1)) refl refl refl (c .sign-at2 .ensures Mark.semicolon a refl))
 
--- src/settings.rt:96:1
 returns-4 : tie.Need-returns-4
-returns-4 c = ?
+returns-4 c = 
+    λ a.
+    then
+    _
+    (c .before .before .before .before .before .before .before .before .before .before .sign-at .ensures Mark.equals a refl)
+    (c .before .before .before .before .before .before .before .before .read .given .1)
+    (step (told-word (c .before .before .before .before .before .before .token-at .ensures) (c .before .before .before .before .token .given .1) (c .before .enum-told3 .given .1)) refl refl refl (c .sign-at3 .ensures Mark.semicolon a refl))
 
--- src/settings.rt:96:1
 returns-5 : tie.Need-returns-5
-returns-5 c = ?
+returns-5 c = λ a. then _ (c .before .before .before .before .before .before .before .before .before .sign-at .ensures Mark.equals a refl) (c .before .before .before .before .before .before .before .read .given .1) (refuses-word (c .before .before .before .before .before .token-at .ensures) (c .before .before .before .token .given .1) (c .before .match3 .keys3) (c .refuse2 .ensures))
 
 pub truth-at-spec : {M : Type 1} → statement M
 truth-at-spec =
