@@ -23,3 +23,6 @@ pub mod Digits
 pub mod Tested
 pub mod Operators
 pub mod Peek
+pub mod Branches
+pub mod Listed
+pub mod Whole

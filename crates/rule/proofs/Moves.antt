@@ -12,7 +12,7 @@ use Rattle.text.proofs.Scan.{scanFrom}
 use Rattle.text.proofs.Tokens.{scanFrom-right, tokens-once}
 use Rattle.rule.specs.Inside.Class.{Class, classify}
 use Rattle.rule.specs.Inside.Machine.{Symbol, Stack, Value, Totals, counted, Move, choices, pick, Outcome, refused, move, run}
-use Rattle.rule.specs.Inside.Answers.{Front, Spot, spot, totals, Comes, Stops, Ready, Further, Answers}
+use Rattle.rule.specs.Inside.Answers.{Front, Spot, spot, totals, Comes, Stops, Ready, Further, Answers, Past, Eats}
 use Rattle.rule.specs.declared.answers.Counts.{Counts}
 use Rattle.rule.specs.declared.answers.Refusal.{Refusal}
 use Rattle.rule.specs.declared.answers.Read.{Read}
@@ -191,6 +191,14 @@ module _ {text : List ℕ} where
         let stopped = subst (λ (v : Read). Answers text (spot from x t) z a v) e h .right in
         subst (λ (v : Read). Answers text (spot from (x ++ w) t) y b v) (sym e) (record { right = under-stops w stopped })
 
+    -- what was called has read something, and there the machine may go on
+    pub stay : {from q : ℕ} {x z : Stack} {t : Totals} {u : Read} {n : Counts} (w : Stack)
+        → Answers text (spot from x t) z b u
+        → u ≡ Went q n
+        → Comes text (spot q (z ++ w) (totals b n)) (spot q y (totals b n))
+        → Answers text (spot from (x ++ w) t) y b (Went q n)
+    stay w h e g = then w h e (onward g (done (went-ready h e)))
+
     -- a limit is broken
     pub break : {from p q : ℕ} {k : Class} {x : Symbol} {t : Totals} {m : Move (Value x)} {w : Stack}
         → Front text from k p q
@@ -198,6 +206,30 @@ module _ {text : List ℕ} where
         → m .breaks ≡ true
         → Answers text (spot from (x ∷ w) t) y b (Refused (record { number = m .fault; place = p }))
     break {x = x} {t = t} {w = w} f h l = record { right = under-stops w (breaks x t f h l) }
+
+  -- more is expected behind
+  pub over : {from : ℕ} {x z : Stack} {t : Totals} {a : List ℕ} {r : Read} (w : Stack)
+      → Answers text (spot from x t) z a r
+      → Answers text (spot from (x ++ w) t) (z ++ w) a r
+  over {r = Went q n} w h = record { right = record { comes = under w (h .right .comes); ready = h .right .ready } }
+  over {r = Refused r} w h = record { right = under-stops w (h .right) }
+
+  answers-past : {s : Spot} {x : Stack} {a : List ℕ} {from : ℕ} (r : Read) → from < s .from → Answers text s x a r → Past from r
+  answers-past (Went q n) h g = omega (arith, g .right .comes .forth)
+  answers-past (Refused r) h g = tt
+
+  -- a token taken, and the rest: that is past it
+  pub eats : {y : Stack} {b : List ℕ} {from p q : ℕ} {k : Class} {x : Symbol} {t : Totals} {m : Move (Value x)} {w : Stack} {n : Totals} {r : Read}
+      → Front text from k p q
+      → pick (choices t p x) k ≡ some m
+      → m .breaks ≡ false
+      → m .totals ≡ n
+      → Answers text (spot q (m .push ++ w) n) y b r
+      → Eats text (spot from (x ∷ w) t) y b r
+  eats {r = r} f h l e g = record { answers = step f h l e g; past = answers-past r (omega (arith, f .back, f .some)) g }
+
+  pub past-went : {s : Spot} {x : Stack} {a : List ℕ} {u : Read} {q : ℕ} {n : Counts} → Eats text s x a u → u ≡ Went q n → s .from < q
+  past-went {s} h e = subst (Past (s .from)) e (h .past)
 
 -- behind a token there is room for what it counts
 pub ready-more : {text : List ℕ} {from p q : ℕ} {k : Class} {n l : Counts}
@@ -230,3 +262,7 @@ ready-on f h = ready-more f h (omega arith) (omega arith)
 -- totals with what a move counts
 pub counts-plus : {l k : Counts} (a : List ℕ) → l ≡ k → totals a k ≡ totals a l
 counts-plus a e = ap (totals a) (sym e)
+
+-- at a text's first byte there is state 0
+pub ready-start : {text : List ℕ} → length text ≤ 4096 → Ready text 0 (record { states = 1; rows = 0 })
+ready-start h = record { short = h; inside = omega arith; states = omega arith; rows = omega arith }

@@ -5,3 +5,6 @@ mod conditions;
 mod letters;
 mod numbers;
 mod plain;
+mod programs;
+mod settings;
+mod statements;

@@ -8,12 +8,13 @@ use Rattle.text.specs.Tokens.{Placed, _at_, Ending, Tokens}
 use Rattle.text.specs.declared.Token.{Token}
 use Rattle.text.specs.declared.Token.the-variants as Token
 use Rattle.rule.specs.Inside.Class.{Class, classify}
-use Rattle.rule.specs.Inside.Machine.{Stack, Totals, Outcome, refused, run}
+use Rattle.rule.specs.Inside.Machine.{Stack, Totals, Outcome, taken, refused, run}
 use Rattle.rule.specs.declared.answers.Counts.{Counts}
 use Rattle.rule.specs.declared.answers.Refusal.{Refusal}
 use Rattle.rule.specs.declared.answers.Read.{Read}
 use Rattle.rule.specs.declared.answers.Read.the-variants.{Went, Refused}
 use Rattle.rule.specs.declared.letters.Letters.{Letters}
+use Rattle.rule.specs.declared.settings.Settings.{Settings}
 
 -- the refusal of a token with which no program goes on: 4, or 3 where it is broken
 abbrev pub refusalOf : Token → Refusal
@@ -91,3 +92,27 @@ alphabetOf l = take (l .count) (l .bytes)
 pub record Sized (l : Letters) : Type 0 where
   pub few : l .count ≤ 16
   pub room : length (l .bytes) ≡ 16
+
+abbrev pub Past : ℕ → Read → Type 0
+Past from (Went to counts) = from < to
+Past from (Refused r) = Unit {0}
+
+-- and it reads something
+pub record Eats (text : List ℕ) (s : Spot) (x : Stack) (alphabet : List ℕ) (r : Read) : Type 0 where
+  pub answers : Answers text s x alphabet r
+  pub past : Past (s .from) r
+
+-- behind so many arms, and this one the last, comes a token that is no `also`
+pub record LastArm (token : Token) (arm : Read) (arms : ℕ) (r : Read) : Type 0 where
+  pub few : arms ≡ 1 → r ≡ Refused (refusalOf token)
+  pub enough : ¬ (arms ≡ 1) → r ≡ arm
+
+-- the same of an answer with the alphabet that was read
+pub record AnswersWith (text : List ℕ) (s : Spot) (x : Stack) (r : Settings) : Type 0 where
+  pub answers : Answers text s x (alphabetOf (r .letters)) (r .read)
+  pub sized : Sized (r .letters)
+
+-- an answer as what comes of a text
+abbrev pub outcomeOf : Read → Outcome
+outcomeOf (Went to counts) = taken (counts .states) (counts .rows)
+outcomeOf (Refused r) = refused (r .number) (r .place)

@@ -1,0 +1,170 @@
+// The two settings, each once, in either order.
+ghost use mathlib.Core.Path.{_≡_};
+ghost use mathlib.Core.List.{List, [], _∷_};
+ghost use Prim.Native.Nat.{ℕ, _≤_};
+ghost use lib.ListN.{length};
+ghost use Rattle.rule.specs.Inside.Class.{Mark};
+ghost use Rattle.rule.specs.Inside.Machine.{exact, program, alphabet, decrement, body, letters, moreLetters, truth, start};
+ghost use Rattle.rule.specs.Inside.Answers.{Sized, totals, spot, Ready, Answers, AnswersWith};
+use super::answers::Counts;
+use super::answers::Read;
+use super::answers::Refusal;
+use super::answers::refuse;
+use super::answers::sign_at;
+use super::letters::Letters;
+use text::Sign;
+use text::Token;
+use text::Word;
+use text::token_at;
+
+// An answer, and the letters so far.
+pub struct Settings {
+    pub read: Read,
+    pub letters: Letters,
+}
+
+// An answer from before the letters.
+fn no_letters(read: Read) -> Settings
+    ensures { λ r. ⌜ (r .read ≡ read) × Sized (r .letters) ⌝ }
+{
+    Settings {
+        read,
+        letters: Letters::none(),
+    }
+}
+
+// The letters, up to the `]` and past it.
+fn letters_at(text: &[u8], at: usize, counts: Counts) -> Settings
+    requires { ⌜ Ready (now text) at counts ⌝ }
+    ensures { λ r. ⌜ AnswersWith (now (text .entry)) (spot at (letters ∷ []) (totals [] counts)) [] r ⌝ }
+{
+    let mut from = at;
+    let mut letters = Letters::none();
+    loop {
+        let token = token_at(text, from);
+        let Token::Letter { at: place, end, byte } = token else {
+            return Settings { read: Read::Refused(refuse(token)), letters };
+        };
+        if letters.has(byte) {
+            return Settings { read: Read::Refused(Refusal { number: 5, place }), letters };
+        }
+        if letters.count == 16 {
+            return Settings { read: Read::Refused(Refusal { number: 5, place }), letters };
+        }
+        letters = letters.with(byte);
+        let next = token_at(text, end);
+        let Token::Sign { at: _, end: after, sign } = next else {
+            return Settings { read: Read::Refused(refuse(next)), letters };
+        };
+        match sign {
+            Sign::CloseBracket => {
+                return Settings { read: Read::Went { at: after, counts }, letters };
+            }
+            Sign::Comma => {
+                from = after;
+            }
+            _ => {
+                return Settings { read: Read::Refused(refuse(next)), letters };
+            }
+        }
+    }
+}
+
+// Behind `alphabet`.
+fn alphabet_at(text: &[u8], at: usize, counts: Counts) -> Settings
+    requires { ⌜ Ready (now text) at counts ⌝ }
+    ensures { λ r. ⌜ AnswersWith (now (text .entry)) (spot at (exact Mark.equals ∷ exact Mark.openList ∷ letters ∷ exact Mark.semicolon ∷ []) (totals [] counts)) [] r ⌝ }
+{
+    let read = sign_at(text, at, counts, b'=');
+    let Read::Went { at: opens, counts: same } = read else {
+        return no_letters(read);
+    };
+    let opened = sign_at(text, opens, same, b'[');
+    let Read::Went { at: inside, counts: still } = opened else {
+        return no_letters(opened);
+    };
+    let listed = letters_at(text, inside, still);
+    let list = listed.read;
+    let letters = listed.letters;
+    let Read::Went { at: next, counts: counted } = list else {
+        return listed;
+    };
+    Settings { read: sign_at(text, next, counted, b';'), letters }
+}
+
+// Behind `decr_on_zero`.
+fn truth_at(text: &[u8], at: usize, counts: Counts) -> Read
+    requires { ⌜ Ready (now text) at counts ⌝ }
+    ensures { λ r. ⌜ ((a : List ℕ) → Answers (now (text .entry)) (spot at (exact Mark.equals ∷ truth ∷ []) (totals a counts)) [] a r) ⌝ }
+{
+    let read = sign_at(text, at, counts, b'=');
+    let Read::Went { at: next, counts: same } = read else {
+        return read;
+    };
+    let token = token_at(text, next);
+    let Token::Word { at: _, end, word } = token else {
+        return Read::Refused(refuse(token));
+    };
+    match word {
+        Word::True => sign_at(text, end, same, b';'),
+        Word::False => sign_at(text, end, same, b';'),
+        _ => Read::Refused(refuse(token)),
+    }
+}
+
+// Behind `alphabet`, where that comes first.
+fn alphabet_first_at(text: &[u8], at: usize, counts: Counts) -> Settings
+    requires { ⌜ Ready (now text) at counts ⌝ }
+    ensures { λ r. ⌜ AnswersWith (now (text .entry)) (spot at (exact Mark.equals ∷ exact Mark.openList ∷ letters ∷ exact Mark.semicolon ∷ decrement ∷ []) (totals [] counts)) [] r ⌝ }
+{
+    let first = alphabet_at(text, at, counts);
+    let read = first.read;
+    let letters = first.letters;
+    let Read::Went { at: next, counts: same } = read else {
+        return first;
+    };
+    let token = token_at(text, next);
+    let Token::Word { at: _, end, word } = token else {
+        return Settings { read: Read::Refused(refuse(token)), letters };
+    };
+    let Word::DecrOnZero = word else {
+        return Settings { read: Read::Refused(refuse(token)), letters };
+    };
+    Settings { read: truth_at(text, end, same), letters }
+}
+
+// Behind `decr_on_zero`, where that comes first.
+fn decrement_first_at(text: &[u8], at: usize, counts: Counts) -> Settings
+    requires { ⌜ Ready (now text) at counts ⌝ }
+    ensures { λ r. ⌜ AnswersWith (now (text .entry)) (spot at (exact Mark.equals ∷ truth ∷ alphabet ∷ []) (totals [] counts)) [] r ⌝ }
+{
+    let read = truth_at(text, at, counts);
+    let Read::Went { at: next, counts: same } = read else {
+        return no_letters(read);
+    };
+    let token = token_at(text, next);
+    let Token::Word { at: _, end, word } = token else {
+        return no_letters(Read::Refused(refuse(token)));
+    };
+    let Word::Alphabet = word else {
+        return no_letters(Read::Refused(refuse(token)));
+    };
+    alphabet_at(text, end, same)
+}
+
+// State 0 is the start.
+pub fn settings_of(text: &[u8]) -> Settings
+    requires { ⌜ length (now text) ≤ 4096 ⌝ }
+    ensures { λ r. ⌜ AnswersWith (now (text .entry)) (spot 0 (program ∷ []) start) (body ∷ []) r ⌝ }
+{
+    let counts = Counts { states: 1, rows: 0 };
+    let token = token_at(text, 0);
+    let Token::Word { at: _, end, word } = token else {
+        return no_letters(Read::Refused(refuse(token)));
+    };
+    match word {
+        Word::Alphabet => alphabet_first_at(text, end, counts),
+        Word::DecrOnZero => decrement_first_at(text, end, counts),
+        _ => no_letters(Read::Refused(refuse(token))),
+    }
+}
