@@ -1,0 +1,87 @@
+-- A reserved word is known by how it is written, and bytes that are none of the reserved words are another.
+use Prim.Native.Nat.{ℕ}
+use mathlib.Core.Path.{_≡_, refl, sym, ap, _∙_}
+use mathlib.Core.Bool.{Bool, true, false, true≢false}
+use mathlib.Core.List.{List, [], _∷_}
+use Rattle.bits.proofs.Tests.{sameList, same-list}
+use Rattle.text.specs.First.{Name, reserved, unreserved, name, IsNamed, IsWord}
+use Rattle.text.specs.Inside.{allWords, NoneOf}
+use Rattle.text.specs.declared.Word.{Word}
+use Rattle.text.specs.declared.Word.the-variants as Word
+use Rattle.text.proofs.Runs.{true-T}
+
+-- bytes that differ from a word's are not that word
+pub differs : {l bytes : List ℕ} {r : Bool} → (l ≡ bytes → r ≡ true) → r ≡ false → ¬ (reserved bytes ≡ reserved l)
+differs {l} {bytes} h e n = let same : l ≡ bytes = cc in true≢false (sym (h same) ∙ e)
+
+isNamed : Name → List ℕ → Bool
+isNamed (reserved bytes) l = sameList bytes l
+isNamed unreserved l = false
+
+is-named : (n : Name) (l : List ℕ) → isNamed n l ≡ true → n ≡ reserved l
+unfolding isNamed
+is-named (reserved bytes) l e = ap reserved (same-list bytes l (true-T e))
+is-named unreserved l e = absurd (true≢false (sym e))
+
+-- the first of these words that the bytes are
+found : List Word → List ℕ → Word
+unfolding isNamed
+found [] l = Word.Other
+found (x ∷ xs) l = elim (isNamed (name x) l) [ true ↦ x | false ↦ found xs l ]
+
+wordOf : Name → Word
+unfolding found
+wordOf (reserved bytes) = found allWords bytes
+wordOf unreserved = Word.Other
+
+word-of-name : (x : Word) → wordOf (name x) ≡ x
+unfolding wordOf
+word-of-name Word.Alphabet = refl
+word-of-name Word.DecrOnZero = refl
+word-of-name Word.True = refl
+word-of-name Word.False = refl
+word-of-name Word.Twoc = refl
+word-of-name Word.String = refl
+word-of-name Word.Move = refl
+word-of-name Word.Goto = refl
+word-of-name Word.Lend = refl
+word-of-name Word.Rend = refl
+word-of-name Word.C = refl
+word-of-name Word.Accept = refl
+word-of-name Word.Reject = refl
+word-of-name Word.If = refl
+word-of-name Word.Else = refl
+word-of-name Word.While = refl
+word-of-name Word.Choose = refl
+word-of-name Word.Branch = refl
+word-of-name Word.Also = refl
+word-of-name Word.Read = refl
+word-of-name Word.Other = refl
+
+found-step : (x : Word) (xs : List Word) (l : List ℕ) (t : Bool) → isNamed (name x) l ≡ t → ¬ (name x ≡ reserved l) → found xs l ≡ Word.Other → found (x ∷ xs) l ≡ Word.Other
+unfolding found
+found-step x xs l true e h r = absurd (h (is-named (name x) l e))
+found-step x xs l false e h r = rw (e, found) r
+
+found-none : (xs : List Word) (l : List ℕ) → NoneOf xs l → found xs l ≡ Word.Other
+unfolding found
+found-none [] l h = refl
+found-none (x ∷ xs) l h = found-step x xs l (isNamed (name x) l) refl (h .0) (found-none xs l (h .1))
+
+-- bytes that are none of the reserved words are another
+pub none-of-all : {l : List ℕ} → NoneOf allWords l → IsWord Word.Other l
+unfolding wordOf
+none-of-all {l} h x e =
+    let other : x ≡ Word.Other = sym (word-of-name x) ∙ (ap wordOf e ∙ found-none allWords l h) in
+    let no : unreserved ≡ reserved l = sym (ap name other) ∙ e in
+    true≢false (cc)
+
+names-once : (x y : Word) (m n : Name) (l : List ℕ) → name x ≡ m → name y ≡ n → IsNamed m l → IsNamed n l → m ≡ n
+names-once x y (reserved a) (reserved b) l e f h g = ap reserved (sym h ∙ g)
+names-once x y (reserved a) unreserved l e f h g = absurd (g x (e ∙ ap reserved (sym h)))
+names-once x y unreserved (reserved b) l e f h g = absurd (h y (f ∙ ap reserved (sym g)))
+names-once x y unreserved unreserved l e f h g = refl
+
+-- bytes are one word only
+pub word-once : (x y : Word) (l : List ℕ) → IsWord x l → IsWord y l → x ≡ y
+word-once x y l h g = sym (word-of-name x) ∙ (ap wordOf (names-once x y (name x) (name y) l refl refl h g) ∙ word-of-name y)

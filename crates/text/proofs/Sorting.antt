@@ -1,0 +1,134 @@
+-- A byte's kind by the arm of a match that it falls in, and the tests that the kind decides.
+use Prim.Native.Nat.{ℕ, zero, suc, _+_, _≤_, _<_}
+use native.Mathlib.Omega.{arith}
+use native.Mathlib.Nat.{eq-or-lt-of-le}
+use mathlib.Core.Path.{_≡_, refl, sym, ap, _∙_, subst}
+use mathlib.Core.Bool.{Bool, true, false, not, _&&_, _||_}
+use mathlib.Core.Logic.{⊎-elim, inl, inr}
+use mathlib.Core.List.{List, [], _∷_}
+use lib.ListN.{getD}
+use lib.Dec.{T, eqb, ltb, eqb→eq}
+use types.Run.{OneOf, hit}
+use mir.Val.{hasKey}
+use denote.Enum.Declared.{tagOf}
+use Rattle.bits.specs.Byte.{isDigit, isAlphabetic, isLetter}
+use Rattle.text.specs.Token.{inWord, quote, signs}
+use Rattle.text.specs.Tokens.{isWhite, slash}
+use Rattle.text.specs.Inside.{begins, sorted, kindOf}
+use Rattle.text.specs.declared.kinds.Kind.{Kind}
+use Rattle.text.specs.declared.kinds.Kind.the-variants.{Digit, Alphabetic, Underscore, Quote, White, Slash, Sign, Other}
+use Rattle.text.proofs.kinds.Kind.{the-type}
+use Rattle.text.proofs.Runs.{T-true, T-false, T-both, T-either}
+
+-- the test passes for each of these keys
+abbrev pub allKeys : (ℕ → Bool) → List ℕ → Bool
+allKeys test [] = true
+allKeys test (k ∷ ks) = test k && allKeys test ks
+
+-- and for each of n numbers from a first one on
+abbrev pub allFrom : (ℕ → Bool) → ℕ → ℕ → Bool
+allFrom test low zero = true
+allFrom test low (suc n) = test low && allFrom test (suc low) n
+
+-- so it passes for what is one of the keys
+pub keyed : (test : ℕ → Bool) (ks : List ℕ) (b : ℕ) → T (allKeys test ks) → OneOf ks b → T (test b)
+keyed test [] b t e = absurd e
+keyed test (k ∷ []) b t e = subst (λ (x : ℕ). T (test x)) (sym e) (T-both (test k) true t .0)
+keyed test (k ∷ l ∷ ks) b t (inl e) = subst (λ (x : ℕ). T (test x)) (sym e) (T-both (test k) (allKeys test (l ∷ ks)) t .0)
+keyed test (k ∷ l ∷ ks) b t (inr e) = keyed test (l ∷ ks) b (T-both (test k) (allKeys test (l ∷ ks)) t .1) e
+
+-- and for what is one of the numbers
+pub ranged : (test : ℕ → Bool) (low n b : ℕ) → T (allFrom test low n) → low ≤ b → b < low + n → T (test b)
+ranged test low zero b t h i = absurd (omega arith)
+ranged test low (suc n) b t h i =
+    let both = T-both (test low) (allFrom test (suc low) n) t in
+    ⊎-elim
+    (λ (e : low ≡ b). subst (λ (x : ℕ). T (test x)) e (both .0))
+    (λ (j : low < b). ranged test (suc low) n b (both .1) j (omega arith))
+    (eq-or-lt-of-le h)
+
+-- what a match knows of a number that is none of its arms' keys, the last arm's first
+abbrev pub NoKey : List (List ℕ) → ℕ → Type 0
+NoKey [] b = Unit {0}
+NoKey (ks ∷ kss) b = NoKey kss b × (OneOf ks b → ⊥)
+
+-- a test, but for these keys
+abbrev pub unless : List (List ℕ) → (ℕ → Bool) → ℕ → Bool
+unless [] test b = test b
+unless (ks ∷ kss) test b = hasKey ks b || unless kss test b
+
+-- what is no key passes it
+pub no-key : (kss : List (List ℕ)) (test : ℕ → Bool) (b : ℕ) → NoKey kss b → T (unless kss test b) → T (test b)
+no-key [] test b h t = t
+no-key (ks ∷ kss) test b h t =
+    ⊎-elim (λ k. absurd (h .1 (hit ks b k))) (no-key kss test b (h .0)) (T-either (hasKey ks b) (unless kss test b) t)
+
+-- a kind by its number
+abbrev tag : Kind → ℕ
+tag = tagOf the-type
+
+numbered : (k : Kind) → getD (Digit ∷ Alphabetic ∷ Underscore ∷ Quote ∷ White ∷ Slash ∷ Sign ∷ Other ∷ []) (tag k) Other ≡ k
+numbered Digit = refl
+numbered Alphabetic = refl
+numbered Underscore = refl
+numbered Quote = refl
+numbered White = refl
+numbered Slash = refl
+numbered Sign = refl
+numbered Other = refl
+
+abbrev pub isKind : Kind → ℕ → Bool
+isKind k b = eqb (tag k) (tag (kindOf b))
+
+is-kind : (k : Kind) (b : ℕ) → T (isKind k b) → k ≡ kindOf b
+is-kind k b t =
+    sym (numbered k)
+    ∙ ap (λ (n : ℕ). getD (Digit ∷ Alphabetic ∷ Underscore ∷ Quote ∷ White ∷ Slash ∷ Sign ∷ Other ∷ []) n Other) (eqb→eq (tag k) (tag (kindOf b)) t)
+    ∙ numbered (kindOf b)
+
+-- the kind of an arm's keys
+pub by-key : (k : Kind) (ks : List ℕ) (b : ℕ) → T (allKeys (isKind k) ks) → OneOf ks b → k ≡ kindOf b
+by-key k ks b t e = is-kind k b (keyed (isKind k) ks b t e)
+
+-- the kind of n bytes from a first one on, but for the keys of other arms
+pub by-range : (k : Kind) (kss : List (List ℕ)) (low n b : ℕ)
+    → T (allFrom (unless kss (isKind k)) low n)
+    → NoKey kss b
+    → low ≤ b
+    → b < low + n
+    → k ≡ kindOf b
+by-range k kss low n b t none h i = is-kind k b (no-key kss (isKind k) b none (ranged (unless kss (isKind k)) low n b t h i))
+
+decides : (d a u q w s g : Bool)
+    → (d ≡ ltb (tag (sorted d a u q w s g)) 1)
+    × ((d || a) ≡ ltb (tag (sorted d a u q w s g)) 2)
+    × (((a || u) || d) ≡ ltb (tag (sorted d a u q w s g)) 3)
+decides true true u q w s g = (refl, refl, refl)
+decides true false true q w s g = (refl, refl, refl)
+decides true false false q w s g = (refl, refl, refl)
+decides false true u q w s g = (refl, refl, refl)
+decides false false true q w s g = (refl, refl, refl)
+decides false false false true w s g = (refl, refl, refl)
+decides false false false false true s g = (refl, refl, refl)
+decides false false false false false true g = (refl, refl, refl)
+decides false false false false false false true = (refl, refl, refl)
+decides false false false false false false false = (refl, refl, refl)
+
+-- the tests that a byte's kind decides: the first kind is that of digits, the first two make letters, the first three words
+pub record Decides (b : ℕ) (k : Kind) : Type 0 where
+  pub digit : isDigit b ≡ ltb (tag k) 1
+  pub letter : isLetter b ≡ ltb (tag k) 2
+  pub word : inWord b ≡ ltb (tag k) 3
+
+pub kind-decides : (b : ℕ) (k : Kind) → k ≡ kindOf b → Decides b k
+kind-decides b k e =
+    let all = decides (isDigit b) (isAlphabetic b) (eqb b 95) (eqb b quote) (isWhite b) (eqb b slash) (begins signs b) in
+    subst (Decides b) (sym e) (record { digit = all .0; letter = all .1; word = all .2 })
+
+-- a kind among these is one of the first so many
+pub among : (n : ℕ) (ks : List ℕ) (k : Kind) → T (allKeys (λ (t : ℕ). ltb t n) ks) → OneOf ks (tag k) → ltb (tag k) n ≡ true
+among n ks k t e = T-true (ltb (tag k) n) (keyed (λ (m : ℕ). ltb m n) ks (tag k) t e)
+
+-- or is none of them
+pub beyond : (n : ℕ) (ks : List ℕ) (k : Kind) → T (allKeys (λ (t : ℕ). not (ltb t n)) ks) → OneOf ks (tag k) → ltb (tag k) n ≡ false
+beyond n ks k t e = T-false (ltb (tag k) n) (keyed (λ (m : ℕ). not (ltb m n)) ks (tag k) t e)

@@ -1,0 +1,64 @@
+-- What the tokeniser's functions promise each other. No caller relies on any of it.
+use Prim.Native.Nat.{ℕ, _+_, _≤_, _<_}
+use mathlib.Core.Path.{_≡_}
+use mathlib.Core.Bool.{Bool, true, false, not, _||_}
+use mathlib.Core.List.{List, [], _∷_}
+use lib.ListN.{length, getD}
+use lib.Dec.{eqb}
+use Rattle.bits.specs.Byte.{isDigit, isAlphabetic}
+use Rattle.text.specs.Token.{quote, signs}
+use Rattle.text.specs.Tokens.{isWhite, slash, lineFeed}
+use Rattle.text.specs.First.{reserved, name}
+use Rattle.text.specs.declared.Word.{Word}
+use Rattle.text.specs.declared.Word.the-variants as Word
+use Rattle.text.specs.declared.kinds.Kind.{Kind}
+use Rattle.text.specs.declared.kinds.Kind.the-variants.{Digit, Alphabetic, Underscore, Quote, White, Slash, Sign, Other}
+
+-- some of these lists has this byte first
+abbrev pub begins : List (List ℕ) → ℕ → Bool
+begins [] b = false
+begins ([] ∷ ls) b = begins ls b
+begins ((c ∷ l) ∷ ls) b = eqb b c || begins ls b
+
+-- the first of these tests that passes says the kind
+abbrev pub sorted : Bool → Bool → Bool → Bool → Bool → Bool → Bool → Kind
+sorted true a u q w s g = Digit
+sorted false true u q w s g = Alphabetic
+sorted false false true q w s g = Underscore
+sorted false false false true w s g = Quote
+sorted false false false false true s g = White
+sorted false false false false false true g = Slash
+sorted false false false false false false true = Sign
+sorted false false false false false false false = Other
+
+-- the kind of a byte
+abbrev pub kindOf : ℕ → Kind
+kindOf b = sorted (isDigit b) (isAlphabetic b) (eqb b 95) (eqb b quote) (isWhite b) (eqb b slash) (begins signs b)
+
+-- a comment goes on with any byte but a line feed
+abbrev pub inComment : ℕ → Bool
+inComment b = not (eqb b lineFeed)
+
+-- from a place on the bytes pass the test, up to this place, where one does not or the text is over
+pub data Run (test : ℕ → Bool) (text : List ℕ) : ℕ → ℕ → Type 0 where
+  over : {i : ℕ} → length text ≤ i → Run test text i i
+  stop : {i : ℕ} → i < length text → test (getD text i 0) ≡ false → Run test text i i
+  on : {i n : ℕ} → i < length text → test (getD text i 0) ≡ true → Run test text (i + 1) n → Run test text i n
+
+-- the reserved words as they are compared, the last first: those of the program's head, of plain statements, of statements that hold blocks, and of conditions
+abbrev pub headWords : List Word
+headWords = Word.String ∷ Word.Twoc ∷ Word.False ∷ Word.True ∷ Word.DecrOnZero ∷ Word.Alphabet ∷ []
+
+abbrev pub plainWords : List Word
+plainWords = Word.Reject ∷ Word.Accept ∷ Word.C ∷ Word.Goto ∷ Word.Move ∷ headWords
+
+abbrev pub blockWords : List Word
+blockWords = Word.Also ∷ Word.Branch ∷ Word.Choose ∷ Word.While ∷ Word.Else ∷ Word.If ∷ plainWords
+
+abbrev pub allWords : List Word
+allWords = Word.Rend ∷ Word.Lend ∷ Word.Read ∷ blockWords
+
+-- these bytes are none of these words
+abbrev pub NoneOf : List Word → List ℕ → Type 0
+NoneOf [] l = Unit {0}
+NoneOf (x ∷ xs) l = ¬ (name x ≡ reserved l) × NoneOf xs l
