@@ -8,3 +8,6 @@ pub mod Tokens
 pub mod Rising
 pub mod Sorting
 pub mod Named
+pub mod Signed
+pub mod Comes
+pub mod Standing

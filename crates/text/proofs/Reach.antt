@@ -46,7 +46,7 @@ kind-says b k e =
     (sorted-says (beginsWord b) (isDigit b) (eqb b quote) (isWhite b) (eqb b slash))
 
 -- a digit begins no word
-digit-no-word : (b : ℕ) → T (isDigit b) → beginsWord b ≡ false
+pub digit-no-word : (b : ℕ) → T (isDigit b) → beginsWord b ≡ false
 digit-no-word b t =
     let h : b ≤ 57 = leb→le b 57 (T-both (leb 48 b) (leb b 57) t .1) in
     simp (lt-leb 65 b (omega arith), lt-leb 97 b (omega arith), ne-eqb b 95 (λ e. omega arith))

@@ -5,37 +5,36 @@ use native.Mathlib.Nat.{eq-or-lt-of-le}
 use mathlib.Core.Path.{_≡_, refl, sym, ap, _∙_, subst}
 use mathlib.Core.Bool.{Bool, true, false, not, _&&_, _||_}
 use mathlib.Core.Logic.{⊎-elim, inl, inr}
-use mathlib.Core.List.{List, [], _∷_}
+use mathlib.Core.List.{List, [], _∷_, List·Memᴰ, List·Memᴰ·head, List·Memᴰ·tail}
 use lib.ListN.{getD}
-use lib.Dec.{T, eqb, ltb, eqb→eq}
+use lib.Dec.{T, eqb, ltb, eqb→eq, eqb-refl}
 use types.Run.{OneOf, hit}
 use mir.Val.{hasKey}
 use denote.Enum.Declared.{tagOf}
+use Rattle.bits.proofs.Tests.{or-left, or-right, every}
 use Rattle.bits.specs.Byte.{isDigit, isAlphabetic, isLetter}
-use Rattle.text.specs.Token.{inWord, quote, signs}
+use Rattle.text.specs.Token.{beginsWord, inWord, quote, signs}
 use Rattle.text.specs.Tokens.{isWhite, slash}
 use Rattle.text.specs.Inside.{begins, sorted, kindOf}
 use Rattle.text.specs.declared.kinds.Kind.{Kind}
 use Rattle.text.specs.declared.kinds.Kind.the-variants.{Digit, Alphabetic, Underscore, Quote, White, Slash, Sign, Other}
 use Rattle.text.proofs.kinds.Kind.{the-type}
+use Rattle.text.proofs.Scan as Scan
+use Rattle.text.proofs.Scan.{forToken, forWhite, forComment, ofWord, ofNumber, ofLetter, ofSign}
+use Rattle.text.proofs.Reach.{Says, kind-says, digit-no-word}
 use Rattle.text.proofs.Runs.{T-true, T-false, T-both, T-either}
 
--- the test passes for each of these keys
-abbrev pub allKeys : (ℕ → Bool) → List ℕ → Bool
-allKeys test [] = true
-allKeys test (k ∷ ks) = test k && allKeys test ks
-
--- and for each of n numbers from a first one on
+-- the test passes for each of n numbers from a first one on
 abbrev pub allFrom : (ℕ → Bool) → ℕ → ℕ → Bool
 allFrom test low zero = true
 allFrom test low (suc n) = test low && allFrom test (suc low) n
 
--- so it passes for what is one of the keys
-pub keyed : (test : ℕ → Bool) (ks : List ℕ) (b : ℕ) → T (allKeys test ks) → OneOf ks b → T (test b)
+-- a test that passes for each of some keys passes for what is one of them
+pub keyed : (test : ℕ → Bool) (ks : List ℕ) (b : ℕ) → T (every test ks) → OneOf ks b → T (test b)
 keyed test [] b t e = absurd e
 keyed test (k ∷ []) b t e = subst (λ (x : ℕ). T (test x)) (sym e) (T-both (test k) true t .0)
-keyed test (k ∷ l ∷ ks) b t (inl e) = subst (λ (x : ℕ). T (test x)) (sym e) (T-both (test k) (allKeys test (l ∷ ks)) t .0)
-keyed test (k ∷ l ∷ ks) b t (inr e) = keyed test (l ∷ ks) b (T-both (test k) (allKeys test (l ∷ ks)) t .1) e
+keyed test (k ∷ l ∷ ks) b t (inl e) = subst (λ (x : ℕ). T (test x)) (sym e) (T-both (test k) (every test (l ∷ ks)) t .0)
+keyed test (k ∷ l ∷ ks) b t (inr e) = keyed test (l ∷ ks) b (T-both (test k) (every test (l ∷ ks)) t .1) e
 
 -- and for what is one of the numbers
 pub ranged : (test : ℕ → Bool) (low n b : ℕ) → T (allFrom test low n) → low ≤ b → b < low + n → T (test b)
@@ -87,7 +86,7 @@ is-kind k b t =
     ∙ numbered (kindOf b)
 
 -- the kind of an arm's keys
-pub by-key : (k : Kind) (ks : List ℕ) (b : ℕ) → T (allKeys (isKind k) ks) → OneOf ks b → k ≡ kindOf b
+pub by-key : (k : Kind) (ks : List ℕ) (b : ℕ) → T (every (isKind k) ks) → OneOf ks b → k ≡ kindOf b
 by-key k ks b t e = is-kind k b (keyed (isKind k) ks b t e)
 
 -- the kind of n bytes from a first one on, but for the keys of other arms
@@ -126,9 +125,67 @@ kind-decides b k e =
     subst (Decides b) (sym e) (record { digit = all .0; letter = all .1; word = all .2 })
 
 -- a kind among these is one of the first so many
-pub among : (n : ℕ) (ks : List ℕ) (k : Kind) → T (allKeys (λ (t : ℕ). ltb t n) ks) → OneOf ks (tag k) → ltb (tag k) n ≡ true
+pub among : (n : ℕ) (ks : List ℕ) (k : Kind) → T (every (λ (t : ℕ). ltb t n) ks) → OneOf ks (tag k) → ltb (tag k) n ≡ true
 among n ks k t e = T-true (ltb (tag k) n) (keyed (λ (m : ℕ). ltb m n) ks (tag k) t e)
 
 -- or is none of them
-pub beyond : (n : ℕ) (ks : List ℕ) (k : Kind) → T (allKeys (λ (t : ℕ). not (ltb t n)) ks) → OneOf ks (tag k) → ltb (tag k) n ≡ false
+pub beyond : (n : ℕ) (ks : List ℕ) (k : Kind) → T (every (λ (t : ℕ). not (ltb t n)) ks) → OneOf ks (tag k) → ltb (tag k) n ≡ false
 beyond n ks k t e = T-false (ltb (tag k) n) (keyed (λ (m : ℕ). not (ltb m n)) ks (tag k) t e)
+
+-- what the tokeniser that computes makes of a kind
+abbrev pub asKind : Kind → Scan.Kind
+asKind Digit = forToken ofNumber
+asKind Alphabetic = forToken ofWord
+asKind Underscore = forToken ofWord
+asKind Quote = forToken ofLetter
+asKind White = forWhite
+asKind Slash = forComment
+asKind Sign = forToken ofSign
+asKind Other = forToken ofSign
+
+same-kind : (d a u q w s g : Bool) → (T d → (a || u) ≡ false) → Scan.sorted (a || u) d q w s ≡ asKind (sorted d a u q w s g)
+same-kind true a u q w s g h = rw (h tt)
+same-kind false true u q w s g h = refl
+same-kind false false true q w s g h = refl
+same-kind false false false true w s g h = refl
+same-kind false false false false true s g h = refl
+same-kind false false false false false true g h = refl
+same-kind false false false false false false true h = refl
+same-kind false false false false false false false h = refl
+
+-- its kind is that
+pub kind-sorted : (b : ℕ) {k : Kind} → kindOf b ≡ k → Scan.kind b ≡ asKind k
+unfolding Scan.kind
+kind-sorted b e =
+    same-kind (isDigit b) (isAlphabetic b) (eqb b 95) (eqb b quote) (isWhite b) (eqb b slash) (begins signs b) (digit-no-word b)
+    ∙ ap asKind e
+
+-- the first byte of one of these lists
+begins-later : (b : ℕ) (l : List ℕ) (ls : List (List ℕ)) → T (begins ls b) → T (begins (l ∷ ls) b)
+begins-later b [] ls t = t
+begins-later b (c ∷ l) ls t = or-right (eqb b c) (begins ls b) t
+
+begins-mem : {b : ℕ} {l : List ℕ} {ls : List (List ℕ)} → List·Memᴰ (b ∷ l) ls → T (begins ls b)
+begins-mem {b} {l} (List·Memᴰ·head {x = x} {xs = xs} e) =
+    subst (λ (y : List ℕ). T (begins (y ∷ xs) b)) e (or-left (eqb b b) (begins xs b) (eqb-refl b))
+begins-mem {b} (List·Memᴰ·tail {x = x} {xs = xs} m) = begins-later b x xs (begins-mem m)
+
+not-other : (d a u q w s g : Bool) → T g → T (ltb (tag (sorted d a u q w s g)) 7)
+not-other true a u q w s g t = tt
+not-other false true u q w s g t = tt
+not-other false false true q w s g t = tt
+not-other false false false true w s g t = tt
+not-other false false false false true s g t = tt
+not-other false false false false false true g t = tt
+not-other false false false false false false true t = tt
+not-other false false false false false false false t = absurd t
+
+-- no sign begins with a byte of no other kind
+pub no-begin : (b : ℕ) {l : List ℕ} → kindOf b ≡ Other → ¬ List·Memᴰ (b ∷ l) signs
+no-begin b e m =
+    subst (λ (k : Kind). T (ltb (tag k) 7)) e
+    (not-other (isDigit b) (isAlphabetic b) (eqb b 95) (eqb b quote) (isWhite b) (eqb b slash) (begins signs b) (begins-mem m))
+
+-- the test that a byte of a kind passes
+pub told : (b : ℕ) {k : Kind} → kindOf b ≡ k → Says (beginsWord b) (isDigit b) (eqb b quote) (isWhite b) (eqb b slash) (asKind k)
+told b {k} e = kind-says b (asKind k) (kind-sorted b e)

@@ -42,7 +42,8 @@ step-right b bs place (skip n) after h go = blank h (go n (blank-some h))
 step-right b bs place (found n t) after h go = found-then h (go n (found-some h))
 step-right b bs place bad after h go = none (h .noBlank) (h .noToken)
 
-scanFrom-right : (fuel place : ℕ) (bytes : List ℕ) → length bytes < fuel → Scans place bytes (scanFrom fuel place bytes)
+-- the bytes from a place on have the tokens that `scanFrom` gives
+pub scanFrom-right : (fuel place : ℕ) (bytes : List ℕ) → length bytes < fuel → Scans place bytes (scanFrom fuel place bytes)
 unfolding scanFrom
 scanFrom-right zero place bytes h = absurd (omega arith)
 scanFrom-right (suc fuel) place [] h = end

@@ -1,0 +1,175 @@
+-- A sign is known by how it is written, and the longest sign at the front of some bytes is that of the first two, or of the first.
+use Prim.Native.Nat.{ℕ, zero, suc, _≤_, zero-le, suc-le-suc}
+use native.Mathlib.Omega.{arith}
+use mathlib.Core.Path.{_≡_, refl, sym, ap, ap₂, _∙_, subst}
+use mathlib.Core.Bool.{Bool, true, false, not, _||_}
+use mathlib.Core.Logic.{⊎-elim}
+use mathlib.Core.List.{List, [], _∷_, List·Memᴰ, List·Memᴰ·head, List·Memᴰ·tail}
+use lib.ListN.{length, take, getD}
+use lib.Seq.{length-take-le}
+use lib.Dec.{T, eqb, leb, eqb→eq, eqb-refl, leb→le}
+use Rattle.bits.proofs.Tests.{sameList, same-list, every, every-at}
+use Rattle.text.specs.Token.{signs}
+use Rattle.text.specs.First.{written}
+use Rattle.text.specs.declared.Sign.{Sign}
+use Rattle.text.specs.declared.Sign.the-variants as Sign
+use Rattle.text.proofs.Scan.{longestOf}
+use Rattle.text.proofs.Runs.{T-true, T-either, longestOf-bound, longestOf-found, longestOf-fits}
+use Rattle.text.proofs.Sorting.{NoKey, unless, no-key}
+
+-- tests of lists of one byte, and of two
+abbrev pub ofOne : (ℕ → Bool) → List ℕ → Bool
+ofOne test [] = true
+ofOne test (x ∷ []) = test x
+ofOne test (x ∷ y ∷ l) = true
+
+abbrev pub ofTwo : (ℕ → ℕ → Bool) → List ℕ → Bool
+ofTwo test [] = true
+ofTwo test (x ∷ []) = true
+ofTwo test (x ∷ y ∷ []) = test x y
+ofTwo test (x ∷ y ∷ z ∷ l) = true
+
+-- a test that only these keys pass
+abbrev pub onlyKeys : List (List ℕ) → ℕ → Bool
+onlyKeys kss = unless kss (λ (x : ℕ). false)
+
+-- where the signs of one byte are keys, what is no key is no sign
+pub no-single : (kss : List (List ℕ)) (a : ℕ) → T (every (ofOne (onlyKeys kss)) signs) → NoKey kss a → ¬ List·Memᴰ (a ∷ []) signs
+no-single kss a t none m = no-key kss (λ (x : ℕ). false) a none (every-at (ofOne (onlyKeys kss)) m t)
+
+-- the same of the signs of two bytes that end with this one
+pub no-ending : (kss : List (List ℕ)) (a b k : ℕ)
+    → T (every (ofTwo (λ (x y : ℕ). not (eqb y k) || onlyKeys kss x)) signs)
+    → b ≡ k
+    → NoKey kss a
+    → ¬ List·Memᴰ (a ∷ b ∷ []) signs
+no-ending kss a b k t e none m =
+    let u : T (not (eqb k k) || onlyKeys kss a) = every-at (ofTwo (λ (x y : ℕ). not (eqb y k) || onlyKeys kss x)) (rw e at m) t in
+    no-key kss (λ (x : ℕ). false) a none (rw (T-true (eqb k k) (eqb-refl k)) at u)
+
+-- a sign of two bytes ends with this one or has one byte twice
+pub no-mixed : (a b k : ℕ)
+    → T (every (ofTwo (λ (x y : ℕ). eqb y k || eqb x y)) signs)
+    → (b ≡ k → ⊥)
+    → (a ≡ b → ⊥)
+    → ¬ List·Memᴰ (a ∷ b ∷ []) signs
+no-mixed a b k t h g m =
+    ⊎-elim (λ e. h (eqb→eq b k e)) (λ e. g (eqb→eq a b e)) (T-either (eqb b k) (eqb a b) (every-at (ofTwo (λ (x y : ℕ). eqb y k || eqb x y)) m t))
+
+-- or else its first is a key
+pub no-double : (kss : List (List ℕ)) (a b k : ℕ)
+    → T (every (ofTwo (λ (x y : ℕ). eqb y k || onlyKeys kss x)) signs)
+    → (b ≡ k → ⊥)
+    → NoKey kss a
+    → ¬ List·Memᴰ (a ∷ b ∷ []) signs
+no-double kss a b k t h none m =
+    ⊎-elim
+    (λ e. h (eqb→eq b k e))
+    (no-key kss (λ (x : ℕ). false) a none)
+    (T-either (eqb b k) (onlyKeys kss a) (every-at (ofTwo (λ (x y : ℕ). eqb y k || onlyKeys kss x)) m t))
+
+-- one byte twice
+pub twice : {a b k : ℕ} → a ≡ k → a ≡ b → (a ∷ b ∷ []) ≡ (k ∷ k ∷ [])
+twice e f = ap₂ (λ (x y : ℕ). x ∷ y ∷ []) e (sym f ∙ e)
+
+-- the sign that is written so
+signOf : List Sign → List ℕ → Sign
+signOf [] l = Sign.Becomes
+signOf (x ∷ xs) l = elim (sameList (written x) l) [ true ↦ x | false ↦ signOf xs l ]
+
+allSigns : List Sign
+allSigns =
+    Sign.Becomes
+    ∷ Sign.Equals
+    ∷ Sign.Differs
+    ∷ Sign.Not
+    ∷ Sign.And
+    ∷ Sign.Or
+    ∷ Sign.Increment
+    ∷ Sign.Decrement
+    ∷ Sign.Add
+    ∷ Sign.Subtract
+    ∷ Sign.Minus
+    ∷ Sign.OpenParen
+    ∷ Sign.CloseParen
+    ∷ Sign.OpenBrace
+    ∷ Sign.CloseBrace
+    ∷ Sign.OpenBracket
+    ∷ Sign.CloseBracket
+    ∷ Sign.Comma
+    ∷ Sign.Semicolon
+    ∷ []
+
+listed : List (List ℕ) → List ℕ → Bool
+listed [] l = false
+listed (m ∷ ms) l = sameList l m || listed ms l
+
+listed-mem : (ms : List (List ℕ)) (l : List ℕ) → T (listed ms l) → List·Memᴰ l ms
+unfolding listed
+listed-mem [] l t = absurd t
+listed-mem (m ∷ ms) l t =
+    ⊎-elim (λ e. List·Memᴰ·head (same-list l m e)) (λ e. List·Memᴰ·tail (listed-mem ms l e)) (T-either (sameList l m) (listed ms l) t)
+
+signs-known : (x : Sign) → (signOf allSigns (written x) ≡ x) × T (listed signs (written x))
+unfolding signOf allSigns listed
+signs-known Sign.Becomes = (refl, tt)
+signs-known Sign.Equals = (refl, tt)
+signs-known Sign.Differs = (refl, tt)
+signs-known Sign.Not = (refl, tt)
+signs-known Sign.And = (refl, tt)
+signs-known Sign.Or = (refl, tt)
+signs-known Sign.Increment = (refl, tt)
+signs-known Sign.Decrement = (refl, tt)
+signs-known Sign.Add = (refl, tt)
+signs-known Sign.Subtract = (refl, tt)
+signs-known Sign.Minus = (refl, tt)
+signs-known Sign.OpenParen = (refl, tt)
+signs-known Sign.CloseParen = (refl, tt)
+signs-known Sign.OpenBrace = (refl, tt)
+signs-known Sign.CloseBrace = (refl, tt)
+signs-known Sign.OpenBracket = (refl, tt)
+signs-known Sign.CloseBracket = (refl, tt)
+signs-known Sign.Comma = (refl, tt)
+signs-known Sign.Semicolon = (refl, tt)
+
+-- what is written as a sign is one
+pub written-sign : (x : Sign) → List·Memᴰ (written x) signs
+written-sign x = listed-mem signs (written x) (signs-known x .1)
+
+-- no two are written alike
+pub sign-once : (x y : Sign) → written x ≡ written y → x ≡ y
+sign-once x y e = sym (signs-known x .0) ∙ (ap (signOf allSigns) e ∙ signs-known y .0)
+
+-- no sign is longer than two bytes
+short : (bytes : List ℕ) (n : ℕ) → longestOf signs bytes ≡ n → n ≤ 2
+short bytes zero e = zero-le
+short bytes (suc n) e =
+    let fits : suc n ≤ length bytes = omega (arith, longestOf-fits signs bytes) in
+    let two = every-at (λ (l : List ℕ). leb (length l) 2) (longestOf-found signs bytes (suc n) (suc-le-suc zero-le) e) tt in
+    omega (arith, length-take-le (suc n) bytes fits, leb→le (length (take (suc n) bytes)) 2 two)
+
+not-two : (a : ℕ) (bs : List ℕ) → ¬ List·Memᴰ (a ∷ getD bs 0 0 ∷ []) signs → ¬ (longestOf signs (a ∷ bs) ≡ 2)
+not-two a [] h e = omega (arith, longestOf-fits signs (a ∷ []))
+not-two a (b ∷ bs) h e = h (longestOf-found signs (a ∷ b ∷ bs) 2 (omega arith) e)
+
+-- the longest sign is of two bytes where they are a sign
+pub two-long : (a : ℕ) (bs : List ℕ) → List·Memᴰ (a ∷ getD bs 0 0 ∷ []) signs → longestOf signs (a ∷ bs) ≡ 2
+two-long a [] m = absurd (every-at (ofTwo (λ (x y : ℕ). not (eqb y 0))) m tt)
+two-long a (b ∷ bs) m =
+    let most = short (a ∷ b ∷ bs) (longestOf signs (a ∷ b ∷ bs)) refl in
+    omega (arith, longestOf-bound {l = a ∷ b ∷ []} bs m)
+
+-- else of one where that is
+pub one-long : (a : ℕ) (bs : List ℕ) → List·Memᴰ (a ∷ []) signs → ¬ List·Memᴰ (a ∷ getD bs 0 0 ∷ []) signs → longestOf signs (a ∷ bs) ≡ 1
+one-long a bs m h =
+    let most = short (a ∷ bs) (longestOf signs (a ∷ bs)) refl in
+    let other = not-two a bs h in
+    omega (arith, longestOf-bound {l = a ∷ []} bs m)
+
+-- and else there is none
+pub none-long : (a : ℕ) (bs : List ℕ) → ¬ List·Memᴰ (a ∷ []) signs → ¬ List·Memᴰ (a ∷ getD bs 0 0 ∷ []) signs → longestOf signs (a ∷ bs) ≡ 0
+none-long a bs g h =
+    let most = short (a ∷ bs) (longestOf signs (a ∷ bs)) refl in
+    let other = not-two a bs h in
+    let single : ¬ (longestOf signs (a ∷ bs) ≡ 1) = λ e. g (longestOf-found signs (a ∷ bs) 1 (omega arith) e) in
+    omega arith
