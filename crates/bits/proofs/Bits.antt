@@ -17,7 +17,7 @@ unfolding bit
 bit-zero-or-one m i = omega arith
 
 -- half a number has the bits after the first
-half-bits : (a j : ℕ) → a / 2 / 2 ^ j ≡ a / 2 ^ suc j
+pub half-bits : (a j : ℕ) → a / 2 / 2 ^ j ≡ a / 2 ^ suc j
 half-bits a j = shr-shr a 1 j ∙ rw one-add
 
 -- two numbers below 2 ^ k with the same bits below k are equal
@@ -31,7 +31,7 @@ same-number (suc k) {a} {b} la lb same =
     omega arith
 
 -- the bits of one byte
-bit-of-byte : (m : List ℕ) (i j : ℕ) → j < 8 → bit m (i * 8 + j) ≡ getD m i 0 / 2 ^ j % 2
+pub bit-of-byte : (m : List ℕ) (i j : ℕ) → j < 8 → bit m (i * 8 + j) ≡ getD m i 0 / 2 ^ j % 2
 unfolding bit
 bit-of-byte m i j l = rw (digits-div, digits-mod)
 

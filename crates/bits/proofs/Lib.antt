@@ -1,4 +1,7 @@
--- Laws of bits, of tests that compute, and of sizes.
+-- Laws of bits, of their change and their count, of tests that compute, and of sizes.
 pub mod Bits
+pub mod Digits
+pub mod Change
+pub mod Counting
 pub mod Size
 pub mod Tests

@@ -10,6 +10,10 @@ bit m i = getD m (i / 8) 0 / 2 ^ (i % 8) % 2
 unfoldable pub withBit : List ℕ → ℕ → List ℕ
 withBit m i = set m (i / 8) (getD m (i / 8) 0 + (1 - bit m i) * 2 ^ (i % 8))
 
+-- the same bytes with bit i cleared
+unfoldable pub withoutBit : List ℕ → ℕ → List ℕ
+withoutBit m i = set m (i / 8) (getD m (i / 8) 0 - bit m i * 2 ^ (i % 8))
+
 -- every element is a byte
 abbrev pub Bytes : List ℕ → Type 0
 Bytes m = (i : ℕ) → getD m i 0 < 256

@@ -1,1 +1,67 @@
-// Bits of a slice of bytes, and counts of ones.
+// Bits of a slice of bytes, and counts of ones. Bit i is bit i mod 8, the least being 0, of byte i / 8.
+ghost use mathlib.Core.Path.{_≡_};
+ghost use Prim.Native.Nat.{_^_, _<_};
+ghost use lib.ListN.{getD, length, replicate};
+ghost use Rattle.bits.specs.Bit.{bit, withBit, withoutBit};
+ghost use Rattle.bits.specs.Ones.{Ones};
+
+// Byte i, or 0 past the end.
+pub fn byte_at(m: &[u8], i: usize) -> u8
+    ensures { λ r. ⌜ r ≡ getD (now (m .entry)) i 0 ⌝ }
+{
+    if i < m.len() { m[i] } else { 0 }
+}
+
+// Bit i, or 0 past the end.
+pub fn bit_at(m: &[u8], i: usize) -> u8
+    ensures { λ r. ⌜ r ≡ bit (now (m .entry)) i ⌝ }
+{
+    (byte_at(m, i / 8) >> (i % 8)) % 2
+}
+
+// Sets bit i; past the end nothing changes.
+pub fn set_bit(m: &mut [u8], i: usize)
+    ensures { λ _. ⌜ now (m .exit) ≡ withBit (now (m .entry)) i ⌝ }
+{
+    let at = i / 8;
+    if at < m.len() {
+        m[at] = m[at] | (1u8 << (i % 8));
+    }
+}
+
+// Clears bit i; past the end nothing changes.
+pub fn clear_bit(m: &mut [u8], i: usize)
+    ensures { λ _. ⌜ now (m .exit) ≡ withoutBit (now (m .entry)) i ⌝ }
+{
+    let at = i / 8;
+    if at < m.len() {
+        if bit_at(m, i) == 1 {
+            m[at] = m[at] - (1u8 << (i % 8));
+        }
+    }
+}
+
+// How many bits are set. Of more bytes the number might not fit.
+pub fn count_ones(m: &[u8]) -> usize
+    requires { ⌜ length (now m) < 2 ^ 61 ⌝ }
+    ensures { λ r. ⌜ Ones (now (m .entry)) r ⌝ }
+{
+    let mut sum: usize = 0;
+    let mut i = 0;
+    while i < m.len() {
+        sum += u8::count_ones(m[i]) as usize;
+        i += 1;
+    }
+    sum
+}
+
+// Every byte becomes 0.
+pub fn clear(m: &mut [u8])
+    ensures { λ _. ⌜ now (m .exit) ≡ replicate (length (now (m .entry))) 0 ⌝ }
+{
+    let mut i = 0;
+    while i < m.len() {
+        m[i] = 0;
+        i += 1;
+    }
+}
