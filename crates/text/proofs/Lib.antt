@@ -11,3 +11,5 @@ pub mod Named
 pub mod Signed
 pub mod Comes
 pub mod Standing
+pub mod Once
+pub mod Follow

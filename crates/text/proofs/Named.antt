@@ -24,7 +24,7 @@ is-named (reserved bytes) l e = ap reserved (same-list bytes l (true-T e))
 is-named unreserved l e = absurd (true≢false (sym e))
 
 -- the first of these words that the bytes are
-found : List Word → List ℕ → Word
+pub found : List Word → List ℕ → Word
 unfolding isNamed
 found [] l = Word.Other
 found (x ∷ xs) l = elim (isNamed (name x) l) [ true ↦ x | false ↦ found xs l ]
@@ -76,12 +76,15 @@ none-of-all {l} h x e =
     let no : unreserved ≡ reserved l = sym (ap name other) ∙ e in
     true≢false (cc)
 
-names-once : (x y : Word) (m n : Name) (l : List ℕ) → name x ≡ m → name y ≡ n → IsNamed m l → IsNamed n l → m ≡ n
-names-once x y (reserved a) (reserved b) l e f h g = ap reserved (sym h ∙ g)
-names-once x y (reserved a) unreserved l e f h g = absurd (g x (e ∙ ap reserved (sym h)))
-names-once x y unreserved (reserved b) l e f h g = absurd (h y (f ∙ ap reserved (sym g)))
-names-once x y unreserved unreserved l e f h g = refl
+none-each : (xs : List Word) (l : List ℕ) → ((x : Word) → ¬ (name x ≡ reserved l)) → NoneOf xs l
+none-each [] l h = tt
+none-each (x ∷ xs) l h = (h x, none-each xs l h)
+
+named-is : (x : Word) (n : Name) (l : List ℕ) → name x ≡ n → IsNamed n l → x ≡ found allWords l
+unfolding wordOf
+named-is x (reserved bytes) l e h = sym (word-of-name x) ∙ ap wordOf (e ∙ ap reserved (sym h))
+named-is x unreserved l e h = sym (word-of-name x) ∙ (ap wordOf e ∙ sym (found-none allWords l (none-each allWords l h)))
 
 -- bytes are one word only
-pub word-once : (x y : Word) (l : List ℕ) → IsWord x l → IsWord y l → x ≡ y
-word-once x y l h g = sym (word-of-name x) ∙ (ap wordOf (names-once x y (name x) (name y) l refl refl h g) ∙ word-of-name y)
+pub word-is : (x : Word) (l : List ℕ) → IsWord x l → x ≡ found allWords l
+word-is x l h = named-is x (name x) l refl h

@@ -73,11 +73,11 @@ pub twice : {a b k : ℕ} → a ≡ k → a ≡ b → (a ∷ b ∷ []) ≡ (k �
 twice e f = ap₂ (λ (x y : ℕ). x ∷ y ∷ []) e (sym f ∙ e)
 
 -- the sign that is written so
-signOf : List Sign → List ℕ → Sign
+pub signOf : List Sign → List ℕ → Sign
 signOf [] l = Sign.Becomes
 signOf (x ∷ xs) l = elim (sameList (written x) l) [ true ↦ x | false ↦ signOf xs l ]
 
-allSigns : List Sign
+pub allSigns : List Sign
 allSigns =
     Sign.Becomes
     ∷ Sign.Equals
@@ -136,9 +136,9 @@ signs-known Sign.Semicolon = (refl, tt)
 pub written-sign : (x : Sign) → List·Memᴰ (written x) signs
 written-sign x = listed-mem signs (written x) (signs-known x .1)
 
--- no two are written alike
-pub sign-once : (x y : Sign) → written x ≡ written y → x ≡ y
-sign-once x y e = sym (signs-known x .0) ∙ (ap (signOf allSigns) e ∙ signs-known y .0)
+-- and is that sign only
+pub sign-is : (x : Sign) → x ≡ signOf allSigns (written x)
+sign-is x = sym (signs-known x .0)
 
 -- no sign is longer than two bytes
 short : (bytes : List ℕ) (n : ℕ) → longestOf signs bytes ≡ n → n ≤ 2

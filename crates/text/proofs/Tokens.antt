@@ -102,11 +102,12 @@ tokens-once {text} h g =
     (ap (λ (r : Scanned). r .tokens) same, ap (λ (r : Scanned). r .ending) same)
 
 -- where a text of this length may end, or its tokens break off
-abbrev EndsAt : Ending → ℕ → Type 0
+abbrev pub EndsAt : Ending → ℕ → Type 0
 EndsAt (ends p) n = p ≡ n
 EndsAt (broken p) n = p < n
 
-ends-from : {place : ℕ} {bytes : List ℕ} {ts : List Placed} {e : Ending} → Tokens place bytes ts e → EndsAt e (place + length bytes)
+-- tokens end there, counted from any place
+pub ends-from : {place : ℕ} {bytes : List ℕ} {ts : List Placed} {e : Ending} → Tokens place bytes ts e → EndsAt e (place + length bytes)
 ends-from end = omega arith
 ends-from (blank {p = p} {n = n} {bytes = bytes} {rest = rest} {e = e} b g) =
     let same : p + n + length rest ≡ p + length bytes = omega (arith, blank-length b) in
