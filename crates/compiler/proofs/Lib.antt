@@ -9,3 +9,4 @@ pub mod SetBit
 pub mod WellFormed
 pub mod Effects
 pub mod Atoms
+pub mod Writing

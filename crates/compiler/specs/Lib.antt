@@ -3,3 +3,4 @@ pub mod Construction
 pub mod Counts
 pub mod Compile
 pub mod Line
+pub mod Writing

@@ -1,1 +1,2 @@
 // From a rule's text to a table's image.
+mod write;
