@@ -10,3 +10,4 @@ pub mod WellFormed
 pub mod Effects
 pub mod Atoms
 pub mod Writing
+pub mod Seeing

@@ -3,4 +3,5 @@ pub mod Construction
 pub mod Counts
 pub mod Compile
 pub mod Line
+pub mod Seeing
 pub mod Writing
