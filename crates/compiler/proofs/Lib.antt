@@ -10,4 +10,6 @@ pub mod WellFormed
 pub mod Effects
 pub mod Atoms
 pub mod Writing
+pub mod Tags
 pub mod Seeing
+pub mod Operators

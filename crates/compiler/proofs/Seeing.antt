@@ -53,17 +53,18 @@ byteIn (Token.Sign p q x) = 0
 byteIn (Token.End p) = 0
 byteIn (Token.Broken p) = 0
 
-abbrev pub endOf : Token → ℕ
-endOf (Token.Word p q x) = q
-endOf (Token.Number p q) = q
-endOf (Token.Letter p q b) = q
-endOf (Token.Sign p q x) = q
-endOf (Token.End p) = p
-endOf (Token.Broken p) = p
+-- where it ends, asked for from a place
+abbrev pub endOf : ℕ → Token → ℕ
+endOf from (Token.Word p q x) = q
+endOf from (Token.Number p q) = q
+endOf from (Token.Letter p q b) = q
+endOf from (Token.Sign p q x) = q
+endOf from (Token.End p) = from
+endOf from (Token.Broken p) = from
 
 -- what is seen of an answer
 abbrev pub SeenBy : List ℕ → ℕ → List Placed → Token → Type 0
-SeenBy text from ts r = SeenAs text from ts (wordIn r) (signIn r) (byteIn r) (placeOf r) (endOf r)
+SeenBy text from ts r = SeenAs text from ts (wordIn r) (signIn r) (byteIn r) (placeOf r) (endOf from r)
 
 digits-spelt : {l n : List ℕ} → Spells l (number n) → T (every isDigit n)
 digits-spelt (aNumber {b = b} {bs = bs} t u) = and-of (isDigit b) (every isDigit bs) t u

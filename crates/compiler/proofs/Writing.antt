@@ -17,7 +17,7 @@ use Rattle.table.specs.Image.{twoBytes, field, rowBytes, rowsBytes, flag, editi
 use Rattle.table.proofs.Image.{length-rows, length-field}
 use Rattle.compiler.specs.Construction.{withBits, indexIn}
 use Rattle.compiler.specs.Compile.{imageRoom}
-use Rattle.compiler.specs.Writing.{Sheet, front, acceptBytes, written, rowPlace, Holds, Held, over, Writes, Marks, Heads}
+use Rattle.compiler.specs.Writing.{Sheet, front, acceptBytes, written, rowPlace, Holds, Held, over, Room, Written, Writes, Marks, Heads}
 use Rattle.compiler.proofs.SetBit.{new, with-bit, length-withBits}
 
 regroup : (a b c d : List ℕ) → (a ++ (b ++ c)) ++ d ≡ a ++ (b ++ (c ++ d))
@@ -99,18 +99,26 @@ pub row-bytes : (from symbol test move change to f₁ f₂ t₁ t₂ : ℕ)
 unfolding rowBytes twoBytes
 row-bytes from symbol test move change to f₁ f₂ t₁ t₂ a b c d = λ i. a i ∷ b i ∷ symbol ∷ test ∷ move ∷ change ∷ c i ∷ d i ∷ []
 
+-- there is room for a row that is the next
+pub room-one : {before : List ℕ} {place : ℕ} {r : Row} → Room before place (λ _. r ∷ []) → place + 8 ≤ length before
+room-one room = omega (arith, row-room (room .holds) (omega (arith, room .fits)), room .here)
+
 -- a row is written where its bytes are put
-pub writes-row : {before after : List ℕ} {at end : ℕ} (r : Row) (bytes : List ℕ)
+pub writes-row : {before after : List ℕ} {place end : ℕ} (r : Row) (bytes : List ℕ)
     → bytes ≡ rowBytes r
-    → after ≡ over before at bytes
-    → end ≡ at + 8
-    → Writes before after at end (r ∷ [])
-writes-row {before} {after} {at} {end} r bytes same put e =
-    record {
-      ends = e;
-      holds = λ h accepting earlier holds here fits.
-          row-more holds r after (put ∙ ap (λ (n : ℕ). over before n bytes) here ∙ ap (over before (rowPlace h earlier)) same);
-    }
+    → after ≡ over before place bytes
+    → end ≡ place + 8
+    → Writes before after place end (λ _. r ∷ [])
+writes-row {before} {after} {place} {end} r bytes same put e = record { writes = written-here }
+  where
+    written-here : (room : Room before place (λ _. r ∷ [])) → Written before after place end (λ _. r ∷ []) room
+    written-here room =
+        let h = room .sheet in
+        let earlier = room .earlier in
+        record {
+          holds = row-more (room .holds) r after (put ∙ ap (λ (n : ℕ). over before n bytes) (room .here) ∙ ap (over before (rowPlace h earlier)) same);
+          ends = omega (arith, e, room .here, length-append earlier (r ∷ []));
+        }
 
 -- the image's first bytes, as far as the letters
 lead : Sheet → List ℕ

@@ -4,4 +4,6 @@ pub mod Counts
 pub mod Compile
 pub mod Line
 pub mod Seeing
+pub mod Operators
 pub mod Writing
+pub mod Emission

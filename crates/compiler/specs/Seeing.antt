@@ -46,7 +46,7 @@ pub data SeenAs (text : List ℕ) (from : ℕ) : List Placed → Word → Sign �
       → l ≡ written x
       → Behind text from e us
       → SeenAs text from ((sign l at p) ∷ us) Word.Other x 0 p e
-  nothing : {p : ℕ} → SeenAs text from [] Word.Other Sign.Semicolon 0 p p
+  nothing : {p : ℕ} → SeenAs text from [] Word.Other Sign.Semicolon 0 p from
 
 pub record Sees (text : List ℕ) (from : ℕ) (seen : Seen) : Type 0 where
   pub stands : (ts : List Placed)

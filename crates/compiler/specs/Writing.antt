@@ -56,14 +56,22 @@ pub record Held (out : List ℕ) : Type 0 where
 abbrev pub over : List ℕ → ℕ → List ℕ → List ℕ
 over l at new = take at l ++ (new ++ drop (at + length new) l)
 
--- these rows are written from a place on, up to an end, behind whatever rows stand there
-pub record Writes (before after : List ℕ) (at end : ℕ) (rows : List Row) : Type 0 where
-  pub ends : end ≡ at + 8 * length rows
-  pub holds : (h : Sheet) (accepting : List ℕ) (earlier : List Row)
-      → Holds h accepting earlier before
-      → at ≡ rowPlace h earlier
-      → length earlier + length rows ≤ h .count
-      → Holds h accepting (earlier ++ rows) after
+-- these rows, which may go by the alphabet, are the next to be written, and there is room for them here
+pub record Room (before : List ℕ) (place : ℕ) (rows : List ℕ → List Row) : Type 0 where
+  pub sheet : Sheet
+  pub accepting : List ℕ
+  pub earlier : List Row
+  pub holds : Holds sheet accepting earlier before
+  pub here : place ≡ rowPlace sheet earlier
+  pub fits : length earlier + length (rows (sheet .alphabet)) ≤ sheet .count
+
+-- they are written behind whatever rows stand there
+pub record Written (before after : List ℕ) (place end : ℕ) (rows : List ℕ → List Row) (room : Room before place rows) : Type 0 where
+  pub holds : Holds (room .sheet) (room .accepting) (room .earlier ++ rows (room .sheet .alphabet)) after
+  pub ends : end ≡ rowPlace (room .sheet) (room .earlier ++ rows (room .sheet .alphabet))
+
+pub record Writes (before after : List ℕ) (place end : ℕ) (rows : List ℕ → List Row) : Type 0 where
+  pub writes : (room : Room before place rows) → Written before after place end rows room
 
 -- a state's accept bit is set
 pub record Marks (before after : List ℕ) (state : ℕ) : Type 0 where

@@ -9,7 +9,7 @@ use text::Word;
 use text::token_at;
 
 // What stands at a place: which word, or Other; which sign, or the semicolon, at which nothing is decided; a letter's
-// byte, or 0; and the token's bytes, text[start..end].
+// byte, or 0; and the token's bytes, text[start..end]. Where no token stands it ends where it was looked for.
 pub struct Seen {
     pub word: Word,
     pub sign: Sign,
@@ -55,14 +55,14 @@ pub fn see(text: &[u8], from: usize) -> Seen
             sign: Sign::Semicolon,
             byte: 0,
             start: at,
-            end: at,
+            end: from,
         },
         Token::Broken { at } => Seen {
             word: Word::Other,
             sign: Sign::Semicolon,
             byte: 0,
             start: at,
-            end: at,
+            end: from,
         },
     }
 }

@@ -7,7 +7,7 @@ ghost use lib.ListN.{length};
 ghost use Rattle.table.specs.Image.{flag};
 ghost use Rattle.compiler.specs.Compile.{imageRoom};
 ghost use Rattle.compiler.specs.Construction.{testRow, free};
-ghost use Rattle.compiler.specs.Writing.{over, Held, Writes, Marks, Heads, Indexes, Counts};
+ghost use Rattle.compiler.specs.Writing.{over, Held, Room, Writes, Marks, Heads, Indexes, Counts};
 
 // The two bytes of a number.
 fn high(n: usize) -> u8
@@ -92,8 +92,8 @@ pub fn row(
     change: u8,
     to: usize,
 ) -> usize
-    requires { ⌜ (at + 8 ≤ length (now out)) × (from ≤ 128) × (to ≤ 128) ⌝ }
-    ensures { λ r. ⌜ Writes (now (out .entry)) (now (out .exit)) at r (record { from = from; symbol = symbol; test = test; move = motion; change = change; to = to } ∷ []) ⌝ }
+    requires { ⌜ Room (now out) at (λ _. record { from = from; symbol = symbol; test = test; move = motion; change = change; to = to } ∷ []) × (from ≤ 128) × (to ≤ 128) ⌝ }
+    ensures { λ r. ⌜ Writes (now (out .entry)) (now (out .exit)) at r (λ _. record { from = from; symbol = symbol; test = test; move = motion; change = change; to = to } ∷ []) ⌝ }
 {
     let bytes = [
         high(from),
@@ -111,16 +111,16 @@ pub fn row(
 
 // A row that only tests.
 pub fn test_row(out: &mut [u8], at: usize, from: usize, symbol: u8, test: u8, to: usize) -> usize
-    requires { ⌜ (at + 8 ≤ length (now out)) × (from ≤ 128) × (to ≤ 128) ⌝ }
-    ensures { λ r. ⌜ Writes (now (out .entry)) (now (out .exit)) at r (testRow symbol test from to ∷ []) ⌝ }
+    requires { ⌜ Room (now out) at (λ _. testRow symbol test from to ∷ []) × (from ≤ 128) × (to ≤ 128) ⌝ }
+    ensures { λ r. ⌜ Writes (now (out .entry)) (now (out .exit)) at r (λ _. testRow symbol test from to ∷ []) ⌝ }
 {
     row(out, at, from, symbol, test, 64, 31, to)
 }
 
 // A row that is free.
 pub fn free(out: &mut [u8], at: usize, from: usize, to: usize) -> usize
-    requires { ⌜ (at + 8 ≤ length (now out)) × (from ≤ 128) × (to ≤ 128) ⌝ }
-    ensures { λ r. ⌜ Writes (now (out .entry)) (now (out .exit)) at r (free from to ∷ []) ⌝ }
+    requires { ⌜ Room (now out) at (λ _. free from to ∷ []) × (from ≤ 128) × (to ≤ 128) ⌝ }
+    ensures { λ r. ⌜ Writes (now (out .entry)) (now (out .exit)) at r (λ _. free from to ∷ []) ⌝ }
 {
     test_row(out, at, from, 18, 2, to)
 }

@@ -1,6 +1,7 @@
 use borrow.Author.Needs.{needs}
+use native.Mathlib.Omega.{arith}
 use mathlib.Core.Path.{refl}
-use Rattle.compiler.proofs.Writing.{row-bytes, writes-row}
+use Rattle.compiler.proofs.Writing.{row-bytes, room-one, writes-row}
 use Rattle.compiler.proofs.write.row.Statement.{statement}
 use Rattle.compiler.proofs.write.row.Tie as tie
 use Rattle.compiler.proofs.write.row.Reads as reads
@@ -25,10 +26,10 @@ slice-aggregate-put : tie.Need-slice-aggregate-put
 slice-aggregate-put c = search needs
 
 put-requires : tie.Need-put-requires
-put-requires c κs = search needs
+put-requires c κs = omega (arith, room-one (c .before .before .before .before .before .before .before .pre .0))
 
 add-result : tie.Need-add-result
-add-result c = search needs
+add-result c = omega (arith, room-one (c .before .before .before .before .before .before .before .before .before .before .pre .0), c .before .before .before .before .before .before .before .before .before .before .good)
 
 same-length : tie.Need-same-length
 same-length c = search needs

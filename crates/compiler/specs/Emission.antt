@@ -1,0 +1,190 @@
+-- What the emitter's functions promise each other: which part of the table each writes for which tokens. No caller relies on any of it.
+use Prim.Native.Nat.{ℕ, suc, _+_, _≤_, _<_}
+use mathlib.Core.Path.{_≡_}
+use mathlib.Core.Bool.{Bool, true, false}
+use mathlib.Core.List.{List, [], _∷_, _++_}
+use lib.ListN.{length}
+use Rattle.text.specs.Token.{Token, w, s}
+use Rattle.text.specs.Tokens.{Placed, _at_}
+use Rattle.table.specs.Table.{Row}
+use Rattle.rule.specs.Tree.{Atom, Condition, Statement, Statements, Arms}
+use Rattle.rule.specs.Grammar.{
+  Ts,
+  IsAtom,
+  Binding,
+  loosest,
+  middle,
+  tightest,
+  IsCondition,
+  IsStatement,
+  IsArms,
+  IsBlock,
+  IsStatements,
+}
+use Rattle.rule.proofs.Within.{AtomWithin, ConditionWithin, StatementWithin, StatementsWithin, ArmsWithin}
+use Rattle.compiler.specs.Construction.{
+  free,
+  atomRows,
+  Added,
+  walk,
+  Part,
+  test,
+  statementPart,
+  statementsPart,
+  armsPart,
+}
+use Rattle.compiler.specs.Writing.{Sheet, rowPlace, Holds}
+use Rattle.compiler.specs.Seeing.{Here}
+use Rattle.compiler.specs.declared.Place.{Place}
+
+-- the emitter stands at a place, where these states and rows are meant
+pub record Stands (sheet : Sheet) (accepting : List ℕ) (rows : List Row) (p next : ℕ) (out : List ℕ) (place : Place) : Type 0 where
+  pub holds : Holds sheet accepting rows out
+  pub state : place .state ≡ p
+  pub takes : place .next ≡ next
+  pub row : place .row ≡ rowPlace sheet rows
+  pub taken : p < next
+
+-- what there is to emit over an alphabet: from a state on, with this next state to be taken, from these tokens up to those, a part
+abbrev pub Task : Type 1
+Task = List ℕ → ℕ → ℕ → Ts → Ts → Part → Type 0
+
+-- a task that can be done here
+pub record Ready (task : Task) (text out : List ℕ) (place : Place) : Type 0 where
+  pub sheet : Sheet
+  pub accepting : List ℕ
+  pub rows : List Row
+  pub from : ℕ
+  pub next : ℕ
+  pub ts : Ts
+  pub us : Ts
+  pub part : Part
+  pub here : Here text (place .at) ts
+  pub stands : Stands sheet accepting rows from next out place
+  pub is : task (sheet .alphabet) from next ts us part
+  pub states : part .next ≤ 128
+  pub fits : length rows + length (part .rows) ≤ sheet .count
+
+-- it is done: the text goes on behind it, and its part is written behind what stood there
+pub record Emitted {task : Task} {text out : List ℕ} {place : Place} (d : Ready task text out place) (after : List ℕ) (r : Place) : Type 0 where
+  pub here : Here text (r .at) (d .us)
+  pub stands : Stands (d .sheet) (d .accepting ++ d .part .accepting) (d .rows ++ d .part .rows) (d .part .exit) (d .part .next) after r
+
+pub record Emits (task : Task) (text before after : List ℕ) (place r : Place) : Type 0 where
+  pub emitted : (d : Ready task text before place) → Emitted d after r
+
+-- rows alone, which leave the state as it is
+abbrev pub rowsPart : List Row → ℕ → ℕ → Part
+rowsPart rows p next = record { rows = rows; accepting = []; exit = p; next = next }
+
+abbrev pub addedPart : Added → ℕ → Part
+addedPart a p = rowsPart (a .rows) p (a .next)
+
+-- an atom, walked with a sign from p to a state
+pub data AtomTask (to : ℕ) (sign : Bool) (alphabet : List ℕ) (p next : ℕ) : Ts → Ts → Part → Type 0 where
+  anAtom : {ts us : Ts} {a : Atom}
+      → IsAtom ts a us
+      → AtomWithin alphabet a
+      → to < next
+      → AtomTask to sign alphabet p next ts us (rowsPart (atomRows alphabet sign a p to) p next)
+
+-- what may stand behind a condition that binds so
+pub data Closes : Binding → Ts → Type 0 where
+  byParen : {b : Binding} {q : ℕ} {us : Ts} → Closes b ((s ")" at q) ∷ us)
+  byOr : {q : ℕ} {us : Ts} → Closes middle ((s "||" at q) ∷ us)
+  byAny : {us : Ts} → Closes tightest us
+
+-- a condition, walked so
+pub data WalkTask (level : Binding) (to : ℕ) (sign : Bool) (alphabet : List ℕ) (p next : ℕ) : Ts → Ts → Part → Type 0 where
+  walks : {ts us : Ts} {c : Condition}
+      → IsCondition level ts c us
+      → Closes level us
+      → ConditionWithin alphabet c
+      → to < next
+      → WalkTask level to sign alphabet p next ts us (addedPart (walk alphabet c sign p to next) p)
+
+-- what `||` joins, or `&&`, and what it joins there
+abbrev pub joins : Bool → Binding
+joins true = loosest
+joins false = middle
+
+abbrev pub joined : Bool → Binding
+joined true = middle
+joined false = tightest
+
+-- a condition in its own parentheses, both ways
+pub data TestTask (yes no : ℕ) (alphabet : List ℕ) (p next : ℕ) : Ts → Ts → Part → Type 0 where
+  tests : {q r : ℕ} {ts us : Ts} {c : Condition}
+      → IsCondition loosest ts c ((s ")" at r) ∷ us)
+      → ConditionWithin alphabet c
+      → yes < next
+      → no < next
+      → TestTask yes no alphabet p next ((s "(" at q) ∷ ts) us (addedPart (test alphabet c p yes no next) p)
+
+-- what stands between `while` and the block
+pub data EntryTask (into over : ℕ) (alphabet : List ℕ) (p next : ℕ) : Ts → Ts → Part → Type 0 where
+  chooses : {q : ℕ} {ts : Ts}
+      → into < next
+      → over < next
+      → EntryTask into over alphabet p next ((w "choose" at q) ∷ ts) ts (rowsPart (free p into ∷ free p over ∷ []) p next)
+  asks : {ts us : Ts} {part : Part} → TestTask into over alphabet p next ts us part → EntryTask into over alphabet p next ts us part
+
+-- no `else` and no `also` stands here, as behind a whole statement
+pub record Follows (us : Ts) : Type 0 where
+  pub noElse : (p : ℕ) (vs : Ts) → ¬ (us ≡ (w "else" at p) ∷ vs)
+  pub noAlso : (p : ℕ) (vs : Ts) → ¬ (us ≡ (w "also" at p) ∷ vs)
+
+pub data StatementTask (alphabet : List ℕ) (p next : ℕ) : Ts → Ts → Part → Type 0 where
+  aStatement : {ts us : Ts} {a : Statement}
+      → IsStatement ts a us
+      → Follows us
+      → StatementWithin alphabet a
+      → StatementTask alphabet p next ts us (statementPart alphabet a p next)
+
+-- one that begins with a word
+pub record HeadedTask (head : Token) (alphabet : List ℕ) (p next : ℕ) (ts us : Ts) (part : Part) : Type 0 where
+  pub place : ℕ
+  pub behind : Ts
+  pub begins : ts ≡ (head at place) ∷ behind
+  pub statement : StatementTask alphabet p next ts us part
+
+-- what is left of a block
+pub data RestTask (alphabet : List ℕ) (p next : ℕ) : Ts → Ts → Part → Type 0 where
+  theRest : {q : ℕ} {ts us : Ts} {b : Statements}
+      → IsStatements ts b ((s "}" at q) ∷ us)
+      → StatementsWithin alphabet b
+      → RestTask alphabet p next ts us (statementsPart alphabet b p next)
+
+-- a part, and then a free row from its exit
+abbrev pub closedPart : Part → ℕ → Part
+closedPart part to =
+    record {
+      rows = part .rows ++ (free (part .exit) to ∷ []);
+      accepting = part .accepting;
+      exit = to;
+      next = part .next;
+    }
+
+-- a block and a free row
+pub data BodyTask (to : ℕ) (alphabet : List ℕ) (p next : ℕ) : Ts → Ts → Part → Type 0 where
+  aBody : {o : ℕ} {ts us : Ts} {b : Statements}
+      → IsBlock ts o b us
+      → StatementsWithin alphabet b
+      → to < next
+      → BodyTask to alphabet p next ts us (closedPart (statementsPart alphabet b p next) to)
+
+-- `else` and its block, or nothing; then a free row
+pub data ElseTask (to : ℕ) (alphabet : List ℕ) (p next : ℕ) : Ts → Ts → Part → Type 0 where
+  noElse : {ts : Ts} → Follows ts → to < next → ElseTask to alphabet p next ts ts (closedPart (rowsPart [] p next) to)
+  anElse : {t : ℕ} {ts us : Ts} {part : Part}
+      → BodyTask to alphabet p next ts us part
+      → ElseTask to alphabet p next ((w "else" at t) ∷ ts) us part
+
+-- arms, behind the word before the first of them
+pub data ArmsTask (to : ℕ) (alphabet : List ℕ) (p next : ℕ) : Ts → Ts → Part → Type 0 where
+  theArms : {k : ℕ} {ts us : Ts} {a : Arms}
+      → IsArms ((w "also" at k) ∷ ts) a us
+      → Follows us
+      → ArmsWithin alphabet a
+      → to < next
+      → ArmsTask to alphabet p next ts us (armsPart alphabet a p to next)
