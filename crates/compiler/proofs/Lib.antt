@@ -13,3 +13,5 @@ pub mod Writing
 pub mod Tags
 pub mod Seeing
 pub mod Operators
+pub mod AtomRows
+pub mod AtomTokens

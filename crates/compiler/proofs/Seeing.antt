@@ -21,6 +21,8 @@ use Rattle.text.specs.declared.Word.{Word}
 use Rattle.text.specs.declared.Word.the-variants as Word
 use Rattle.text.specs.declared.Sign.{Sign}
 use Rattle.text.specs.declared.Sign.the-variants as Sign
+use Rattle.text.proofs.Named.{word-is}
+use Rattle.text.proofs.Signed.{signOf, allSigns, sign-is}
 use Rattle.text.proofs.Comes.{end-first}
 use Rattle.text.proofs.Once.{comes}
 use Rattle.text.proofs.Follow.{placeOf, first-onward}
@@ -182,3 +184,24 @@ module _ (text : List ℕ) (from to value i : ℕ) (d : Digits text from to) (c 
 
 pub count-none : {text : List ℕ} {from to : ℕ} → Digits text from to → Counting text from to 0 from
 count-none d = record { order = d .order; digits = d .digits; same = refl }
+
+-- bytes are one word, and a sign is written in one way
+pub word-same : {x y : Word} (l : List ℕ) → IsWord x l → IsWord y l → x ≡ y
+word-same {x} {y} l h g = word-is x l h ∙ sym (word-is y l g)
+
+sign-same : (x y : Sign) → written x ≡ written y → x ≡ y
+sign-same x y e = sign-is x ∙ ap (signOf allSigns) e ∙ sym (sign-is y)
+
+-- which word is seen where one stands
+pub seen-word : {text : List ℕ} {from p e b q : ℕ} {l : List ℕ} {us : List Placed} {x : Word} {g : Sign} (y : Word)
+    → SeenAs text from ((word l at q) ∷ us) x g b p e
+    → IsWord y l
+    → x ≡ y
+seen-word {l = l} y (Seen.aWord h k) is = word-same l h is
+
+-- and which sign
+pub seen-sign : {text : List ℕ} {from p e b q : ℕ} {l : List ℕ} {us : List Placed} {x : Word} {g : Sign} (y : Sign)
+    → SeenAs text from ((sign l at q) ∷ us) x g b p e
+    → l ≡ written y
+    → g ≡ y
+seen-sign y (Seen.aSign {x = g} h k) is = sign-same g y (sym h ∙ is)

@@ -17,7 +17,7 @@ use Rattle.table.specs.Image.{twoBytes, field, rowBytes, rowsBytes, flag, editi
 use Rattle.table.proofs.Image.{length-rows, length-field}
 use Rattle.compiler.specs.Construction.{withBits, indexIn}
 use Rattle.compiler.specs.Compile.{imageRoom}
-use Rattle.compiler.specs.Writing.{Sheet, front, acceptBytes, written, rowPlace, Holds, Held, over, Room, Written, Writes, Marks, Heads}
+use Rattle.compiler.specs.Writing.{Sheet, front, acceptBytes, written, rowPlace, Holds, Held, over, Filled, Room, Writes, Marks, Heads, Counts}
 use Rattle.compiler.proofs.SetBit.{new, with-bit, length-withBits}
 
 regroup : (a b c d : List ℕ) → (a ++ (b ++ c)) ++ d ≡ a ++ (b ++ (c ++ d))
@@ -101,7 +101,7 @@ row-bytes from symbol test move change to f₁ f₂ t₁ t₂ a b c d = λ i. a 
 
 -- there is room for a row that is the next
 pub room-one : {before : List ℕ} {place : ℕ} {r : Row} → Room before place (λ _. r ∷ []) → place + 8 ≤ length before
-room-one room = omega (arith, row-room (room .holds) (omega (arith, room .fits)), room .here)
+room-one room = omega (arith, row-room (room .filled .holds) (omega (arith, room .fits)), room .filled .here)
 
 -- a row is written where its bytes are put
 pub writes-row : {before after : List ℕ} {place end : ℕ} (r : Row) (bytes : List ℕ)
@@ -109,15 +109,13 @@ pub writes-row : {before after : List ℕ} {place end : ℕ} (r : Row) (bytes : 
     → after ≡ over before place bytes
     → end ≡ place + 8
     → Writes before after place end (λ _. r ∷ [])
-writes-row {before} {after} {place} {end} r bytes same put e = record { writes = written-here }
+writes-row {before} {after} {place} {end} r bytes same put e = record { writes = λ filled fits. more filled }
   where
-    written-here : (room : Room before place (λ _. r ∷ [])) → Written before after place end (λ _. r ∷ []) room
-    written-here room =
-        let h = room .sheet in
-        let earlier = room .earlier in
+    more : {h : Sheet} {accepting : List ℕ} {earlier : List Row} → Filled h accepting earlier before place → Filled h accepting (earlier ++ (r ∷ [])) after end
+    more {h} {accepting} {earlier} filled =
         record {
-          holds = row-more (room .holds) r after (put ∙ ap (λ (n : ℕ). over before n bytes) (room .here) ∙ ap (over before (rowPlace h earlier)) same);
-          ends = omega (arith, e, room .here, length-append earlier (r ∷ []));
+          holds = row-more (filled .holds) r after (put ∙ ap (λ (n : ℕ). over before n bytes) (filled .here) ∙ ap (over before (rowPlace h earlier)) same);
+          here = omega (arith, e, filled .here, length-append earlier (r ∷ []));
         }
 
 -- the image's first bytes, as far as the letters
@@ -205,15 +203,16 @@ bits-more [] bytes state = refl
 bits-more (x ∷ xs) bytes state = bits-more xs (withBit bytes x) state
 
 -- an accept bit is set in its part of the buffer
-pub marks-bit : (before after part : List ℕ) (from many state : ℕ)
-    → ((h : Sheet) (accepting : List ℕ) (rows : List Row) → Holds h accepting rows before → from ≡ length (h .alphabet) + 19)
+pub marks-bit : (before after part : List ℕ) (letters from many state : ℕ)
+    → Counts before letters
+    → from ≡ letters + 19
     → many ≡ 16
     → part ≡ withBit (take many (drop from before)) state
     → after ≡ take from before ++ (part ++ drop many (drop from before))
     → Marks before after state
 unfolding written
-marks-bit before after part from many state start sixteen part-is after-is =
-    record { holds = λ h accepting rows holds. mark h accepting rows holds (start h accepting rows holds) }
+marks-bit before after part letters from many state count start sixteen part-is after-is =
+    record { marks = λ holds. mark _ _ _ holds (start ∙ ap (λ (n : ℕ). n + 19) (count .counts holds)) }
   where
     mark : (h : Sheet) (accepting : List ℕ) (rows : List Row)
         → Holds h accepting rows before
@@ -299,7 +298,7 @@ pub heads : {before middle after : List ℕ} (count : ℕ) (stops : Bool) (state
     → after ≡ over middle (count + 7) (behind-letters f s₁ s₂ n₁ n₂)
     → Heads before after count stops states rows
 heads {before} {middle} {after} count stops states rows k f s₁ s₂ n₁ n₂ bounds k-is f-is s₁-is s₂-is n₁-is n₂-is middle-is after-is =
-    record { holds = head }
+    record { heads = head }
   where
     head : (old alphabet : List ℕ)
         → before ≡ over old 7 alphabet

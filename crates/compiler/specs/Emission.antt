@@ -33,23 +33,29 @@ use Rattle.compiler.specs.Construction.{
   statementsPart,
   armsPart,
 }
-use Rattle.compiler.specs.Writing.{Sheet, rowPlace, Holds}
+use Rattle.compiler.specs.Writing.{Sheet, Filled}
 use Rattle.compiler.specs.Seeing.{Here}
 use Rattle.compiler.specs.declared.Place.{Place}
 
--- the emitter stands at a place, where these states and rows are meant
-pub record Stands (sheet : Sheet) (accepting : List ℕ) (rows : List Row) (p next : ℕ) (out : List ℕ) (place : Place) : Type 0 where
-  pub holds : Holds sheet accepting rows out
+-- the emitter stands at a place: so much is written, these states are meant, and these tokens are ahead
+pub record At (text out : List ℕ) (place : Place) (h : Sheet) (accepting : List ℕ) (rows : List Row) (p next : ℕ) (ts : Ts) : Type 0 where
+  pub here : Here text (place .at) ts
+  pub filled : Filled h accepting rows out (place .row)
   pub state : place .state ≡ p
   pub takes : place .next ≡ next
-  pub row : place .row ≡ rowPlace sheet rows
   pub taken : p < next
 
 -- what there is to emit over an alphabet: from a state on, with this next state to be taken, from these tokens up to those, a part
 abbrev pub Task : Type 1
 Task = List ℕ → ℕ → ℕ → Ts → Ts → Part → Type 0
 
--- a task that can be done here
+-- a task that can be done here: there are states and rows enough for it
+pub record Doing (task : Task) (text out : List ℕ) (place : Place) (h : Sheet) (accepting : List ℕ) (rows : List Row) (p next : ℕ) (ts us : Ts) (part : Part) : Type 0 where
+  pub stands : At text out place h accepting rows p next ts
+  pub is : task (h .alphabet) p next ts us part
+  pub states : part .next ≤ 128
+  pub fits : length rows + length (part .rows) ≤ h .count
+
 pub record Ready (task : Task) (text out : List ℕ) (place : Place) : Type 0 where
   pub sheet : Sheet
   pub accepting : List ℕ
@@ -59,19 +65,14 @@ pub record Ready (task : Task) (text out : List ℕ) (place : Place) : Type 0 wh
   pub ts : Ts
   pub us : Ts
   pub part : Part
-  pub here : Here text (place .at) ts
-  pub stands : Stands sheet accepting rows from next out place
-  pub is : task (sheet .alphabet) from next ts us part
-  pub states : part .next ≤ 128
-  pub fits : length rows + length (part .rows) ≤ sheet .count
+  pub doing : Doing task text out place sheet accepting rows from next ts us part
 
--- it is done: the text goes on behind it, and its part is written behind what stood there
-pub record Emitted {task : Task} {text out : List ℕ} {place : Place} (d : Ready task text out place) (after : List ℕ) (r : Place) : Type 0 where
-  pub here : Here text (r .at) (d .us)
-  pub stands : Stands (d .sheet) (d .accepting ++ d .part .accepting) (d .rows ++ d .part .rows) (d .part .exit) (d .part .next) after r
-
+-- whatever it is, it is done: the text goes on behind it, and its part is written behind what stood there
 pub record Emits (task : Task) (text before after : List ℕ) (place r : Place) : Type 0 where
-  pub emitted : (d : Ready task text before place) → Emitted d after r
+  pub emits : {h : Sheet} {accepting : List ℕ} {rows : List Row} {p next : ℕ} {ts us : Ts} {part : Part}
+      → Doing task text before place h accepting rows p next ts us part
+      → At text after r h (accepting ++ part .accepting) (rows ++ part .rows) (part .exit) (part .next) us
+  pub onward : place .at ≤ r .at
 
 -- rows alone, which leave the state as it is
 abbrev pub rowsPart : List Row → ℕ → ℕ → Part
@@ -141,12 +142,11 @@ pub data StatementTask (alphabet : List ℕ) (p next : ℕ) : Ts → Ts → Part
       → StatementWithin alphabet a
       → StatementTask alphabet p next ts us (statementPart alphabet a p next)
 
--- one that begins with a word
-pub record HeadedTask (head : Token) (alphabet : List ℕ) (p next : ℕ) (ts us : Ts) (part : Part) : Type 0 where
-  pub place : ℕ
-  pub behind : Ts
-  pub begins : ts ≡ (head at place) ∷ behind
-  pub statement : StatementTask alphabet p next ts us part
+-- one that begins with this word, behind the word
+pub data HeadedTask (head : Token) (alphabet : List ℕ) (p next : ℕ) : Ts → Ts → Part → Type 0 where
+  headed : {k : ℕ} {ts us : Ts} {part : Part}
+      → StatementTask alphabet p next ((head at k) ∷ ts) us part
+      → HeadedTask head alphabet p next ts us part
 
 -- what is left of a block
 pub data RestTask (alphabet : List ℕ) (p next : ℕ) : Ts → Ts → Part → Type 0 where

@@ -56,39 +56,40 @@ pub record Held (out : List ℕ) : Type 0 where
 abbrev pub over : List ℕ → ℕ → List ℕ → List ℕ
 over l at new = take at l ++ (new ++ drop (at + length new) l)
 
--- these rows, which may go by the alphabet, are the next to be written, and there is room for them here
+-- it holds so much, and the next row is to be written here
+pub record Filled (h : Sheet) (accepting : List ℕ) (rows : List Row) (out : List ℕ) (place : ℕ) : Type 0 where
+  pub holds : Holds h accepting rows out
+  pub here : place ≡ rowPlace h rows
+
+-- there is room for these rows, which may go by the alphabet
 pub record Room (before : List ℕ) (place : ℕ) (rows : List ℕ → List Row) : Type 0 where
   pub sheet : Sheet
   pub accepting : List ℕ
   pub earlier : List Row
-  pub holds : Holds sheet accepting earlier before
-  pub here : place ≡ rowPlace sheet earlier
+  pub filled : Filled sheet accepting earlier before place
   pub fits : length earlier + length (rows (sheet .alphabet)) ≤ sheet .count
 
 -- they are written behind whatever rows stand there
-pub record Written (before after : List ℕ) (place end : ℕ) (rows : List ℕ → List Row) (room : Room before place rows) : Type 0 where
-  pub holds : Holds (room .sheet) (room .accepting) (room .earlier ++ rows (room .sheet .alphabet)) after
-  pub ends : end ≡ rowPlace (room .sheet) (room .earlier ++ rows (room .sheet .alphabet))
-
 pub record Writes (before after : List ℕ) (place end : ℕ) (rows : List ℕ → List Row) : Type 0 where
-  pub writes : (room : Room before place rows) → Written before after place end rows room
+  pub writes : {h : Sheet} {accepting : List ℕ} {earlier : List Row}
+      → Filled h accepting earlier before place
+      → length earlier + length (rows (h .alphabet)) ≤ h .count
+      → Filled h accepting (earlier ++ rows (h .alphabet)) after end
 
 -- a state's accept bit is set
 pub record Marks (before after : List ℕ) (state : ℕ) : Type 0 where
-  pub holds : (h : Sheet) (accepting : List ℕ) (rows : List Row)
-      → Holds h accepting rows before
-      → Holds h (accepting ++ (state ∷ [])) rows after
+  pub marks : {h : Sheet} {accepting : List ℕ} {rows : List Row} → Holds h accepting rows before → Holds h (accepting ++ (state ∷ [])) rows after
 
 -- the header is written around the letters, which stand already
 pub record Heads (before after : List ℕ) (count : ℕ) (stops : Bool) (states rows : ℕ) : Type 0 where
-  pub holds : (old alphabet : List ℕ)
+  pub heads : (old alphabet : List ℕ)
       → before ≡ over old 7 alphabet
       → count ≡ length alphabet
       → Holds (record { old = old; alphabet = alphabet; stops = stops; states = states; count = rows }) [] [] after
 
 -- a letter's index in the alphabet of the image, and how many letters that has
 pub record Indexes (out : List ℕ) (byte index : ℕ) : Type 0 where
-  pub finds : (h : Sheet) (accepting : List ℕ) (rows : List Row) → Holds h accepting rows out → index ≡ indexIn (h .alphabet) byte
+  pub finds : {h : Sheet} {accepting : List ℕ} {rows : List Row} → Holds h accepting rows out → index ≡ indexIn (h .alphabet) byte
 
 pub record Counts (out : List ℕ) (many : ℕ) : Type 0 where
-  pub counts : (h : Sheet) (accepting : List ℕ) (rows : List Row) → Holds h accepting rows out → many ≡ length (h .alphabet)
+  pub counts : {h : Sheet} {accepting : List ℕ} {rows : List Row} → Holds h accepting rows out → many ≡ length (h .alphabet)

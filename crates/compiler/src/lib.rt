@@ -2,6 +2,7 @@
 // writes the image of its table; it never refuses.
 mod ahead;
 mod see;
+mod walk;
 mod write;
 
 // Where the emitter stands: how far it has come in the text, the state that the next statement starts at, the next state

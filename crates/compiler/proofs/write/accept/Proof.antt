@@ -1,6 +1,6 @@
 use Prim.Native.Nat.{ℕ, _+_, _-_, _≤_}
 use native.Mathlib.Omega.{arith}
-use mathlib.Core.Path.{_≡_, refl, ap}
+use mathlib.Core.Path.{_≡_, refl}
 use lib.ListN.{length}
 use borrow.Author.Needs.{needs}
 use Rattle.compiler.proofs.Writing.{held-long, marks-bit}
@@ -15,7 +15,7 @@ use Rattle.compiler.proofs.write.letters.Reads as letters-reads
 few : (c : tie.After-letters) → (c .letters .result ≤ 16) × (c .letters .result + 38 ≤ length (c .before .before .before .args .out .now))
 few c =
     let held = c .before .before .before .pre in
-    let n = c .letters .ensures .counts (held .sheet) (held .accepting) (held .rows) (held .holds) in
+    let n = c .letters .ensures .counts (held .holds) in
     (omega (arith, held .holds .few), omega (arith, held-long (held .holds)))
 
 sixteen : (n : ℕ) → n + 19 + 16 - (n + 19) ≡ 16
@@ -46,8 +46,7 @@ same-length : tie.Need-same-length
 same-length c = search needs
 
 returns : tie.Need-returns
-returns c =
-    marks-bit _ _ _ _ _ _ (λ h accepting rows holds. ap (λ (n : ℕ). n + 19) (c .before .before .before .before .letters .ensures .counts h accepting rows holds)) (sixteen (c .before .before .before .before .letters .result)) (c .before .before .set-bit .ensures) refl
+returns c = marks-bit _ _ _ _ _ _ _ (c .before .before .before .before .letters .ensures) refl (sixteen (c .before .before .before .before .letters .result)) (c .before .before .set-bit .ensures) refl
 
 pub accept-spec : {M : Type 1} → statement M
 accept-spec =

@@ -15,7 +15,7 @@ use Rattle.compiler.proofs.write.letters.Reads as letters-reads
 few : (c : tie.After-letters) → (c .letters .result ≤ 16) × (c .letters .result + 38 ≤ length (c .before .before .args .out .now))
 few c =
     let held = c .before .before .pre in
-    let n = c .letters .ensures .counts (held .sheet) (held .accepting) (held .rows) (held .holds) in
+    let n = c .letters .ensures .counts (held .holds) in
     (omega (arith, held .holds .few), omega (arith, held-long (held .holds)))
 
 letters-requires : tie.Need-letters-requires
@@ -36,8 +36,8 @@ cast-result c = omega (arith, few (c .before), c .find .ensures .1)
 returns : tie.Need-returns
 returns c =
     record {
-      finds = λ h accepting rows holds.
-          index-back (c .before .before .before .args .byte) (c .before .before .before .args .out .now) (c .find .ensures .0) (c .before .letters .ensures .counts h accepting rows holds) (held-index holds _);
+      finds = λ holds.
+          index-back (c .before .before .before .args .byte) (c .before .before .before .args .out .now) (c .find .ensures .0) (c .before .letters .ensures .counts holds) (held-index holds _);
     }
 
 pub letter-spec : {M : Type 1} → statement M

@@ -11,7 +11,7 @@ cast-result : tie.Need-cast-result
 cast-result c = omega (arith, c .shared-slice-known .given 6)
 
 returns : tie.Need-returns
-returns c = record { counts = λ h accepting rows holds. held-count holds }
+returns c = record { counts = λ holds. held-count holds }
 
 pub letters-spec : {M : Type 1} → statement M
 letters-spec = tie.close (tie.spec shared-slice-read-result cast-result returns)
