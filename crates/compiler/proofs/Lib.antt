@@ -13,5 +13,7 @@ pub mod Writing
 pub mod Tags
 pub mod Seeing
 pub mod Operators
+pub mod Emission
 pub mod AtomRows
 pub mod AtomTokens
+pub mod Walking

@@ -67,11 +67,15 @@ pub record Ready (task : Task) (text out : List ℕ) (place : Place) : Type 0 wh
   pub part : Part
   pub doing : Doing task text out place sheet accepting rows from next ts us part
 
--- whatever it is, it is done: the text goes on behind it, and its part is written behind what stood there
+-- it is done: the text goes on behind it, and its part is written behind what stood there
+pub record Emitted (text out : List ℕ) (place : Place) (h : Sheet) (accepting : List ℕ) (rows : List Row) (us : Ts) (part : Part) : Type 0 where
+  pub stands : At text out place h (accepting ++ part .accepting) (rows ++ part .rows) (part .exit) (part .next) us
+
+-- whatever the task was
 pub record Emits (task : Task) (text before after : List ℕ) (place r : Place) : Type 0 where
   pub emits : {h : Sheet} {accepting : List ℕ} {rows : List Row} {p next : ℕ} {ts us : Ts} {part : Part}
       → Doing task text before place h accepting rows p next ts us part
-      → At text after r h (accepting ++ part .accepting) (rows ++ part .rows) (part .exit) (part .next) us
+      → Emitted text after r h accepting rows us part
   pub onward : place .at ≤ r .at
 
 -- rows alone, which leave the state as it is
