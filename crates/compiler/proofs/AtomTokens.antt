@@ -6,15 +6,12 @@ use mathlib.Core.Bool.{Bool, true, false, not}
 use mathlib.Core.List.{List, [], _∷_}
 use lib.ListN.{length, drop}
 use types.Run.{OneOf, miss}
-use denote.Enum.Declared.{tagOf}
 use Rattle.text.specs.Token.{w, s}
 use Rattle.text.specs.Tokens.{_at_}
 use Rattle.text.specs.declared.Word.{Word}
 use Rattle.text.specs.declared.Word.the-variants as Word
 use Rattle.text.specs.declared.Sign.{Sign}
 use Rattle.text.specs.declared.Sign.the-variants as Sign
-use Rattle.text.proofs.Word.{the-type as word-type}
-use Rattle.text.proofs.Sign.{the-type as sign-type}
 use Rattle.rule.specs.Tree.{Sought, letter, Atom}
 use Rattle.rule.specs.Tree as Tree
 use Rattle.rule.specs.Grammar.{Ts, IsSought, aLetter, lend, rend, IsAtom, readIs, readIsNot, counterIs, counterIsNot}
@@ -22,14 +19,8 @@ use Rattle.compiler.specs.Construction.{indexIn, symbolCode, atomRows}
 use Rattle.compiler.specs.Seeing as Seen
 use Rattle.compiler.specs.Seeing.{Here, SeenAs}
 use Rattle.compiler.specs.Atoms.{counterRows, readRows, Compares}
-use Rattle.compiler.proofs.Tags.{wordTags, signTags, none-of}
+use Rattle.compiler.proofs.Tags.{wordTag, signTag, wordTags, signTags, none-of}
 use Rattle.compiler.proofs.Seeing.{seen-behind, seen-word, seen-sign}
-
-abbrev pub wordTag : Word → ℕ
-wordTag = tagOf word-type
-
-abbrev pub signTag : Sign → ℕ
-signTag = tagOf sign-type
 
 -- what is sought, by the word and the byte that are seen
 data SoughtAs : Word → ℕ → Sought → Type 0 where

@@ -4,11 +4,12 @@ use native.Mathlib.Omega.{arith}
 use mathlib.Core.Path.{_≡_, refl, sym, _∙_, ap, subst, subst₂}
 use mathlib.Core.List.{List, [], _∷_, _++_, append-nil, append-assoc}
 use lib.ListN.{length, length-append}
+use Rattle.text.specs.Tokens.{Placed}
 use Rattle.table.specs.Table.{Row}
 use Rattle.rule.specs.Grammar.{Ts}
 use Rattle.compiler.specs.Construction.{Part}
 use Rattle.compiler.specs.Writing.{Sheet, Holds, Held, Filled, Room, Writes}
-use Rattle.compiler.specs.Seeing.{Here}
+use Rattle.compiler.specs.Seeing.{Here, Passes}
 use Rattle.compiler.specs.Emission.{At, Task, Doing, Ready, Emitted, rowsPart}
 use Rattle.compiler.specs.declared.Place.{Place}
 
@@ -74,3 +75,25 @@ rows-emitted {text} {out} {place} {h} {accepting} {rows} {us} {ys} here filled i
         taken = taken;
       };
     }
+
+-- the same place, further on in the text
+pub at-moved : {text out : List ℕ} {place : Place} {h : Sheet} {accepting : List ℕ} {rows : List Row} {p next : ℕ} {ts us : Ts} (further : ℕ)
+    → At text out place h accepting rows p next ts
+    → Here text further us
+    → At text out (record { at = further; state = place .state; next = place .next; row = place .row }) h accepting rows p next us
+at-moved further stands here =
+    record { here = here; filled = stands .filled; state = stands .state; takes = stands .takes; taken = stands .taken }
+
+-- behind one token more
+pub emitted-past : {text out : List ℕ} {place : Place} {h : Sheet} {accepting : List ℕ} {rows : List Row} {t : Placed} {us : Ts} {part : Part} {end : ℕ}
+    → Emitted text out place h accepting rows (t ∷ us) part
+    → Passes text (place .at) 1 end
+    → Emitted text out (record { at = end; state = place .state; next = place .next; row = place .row }) h accepting rows us part
+emitted-past {end = end} e pass =
+    record { stands = at-moved end (e .stands) (pass .behind _ (e .stands .here) (omega arith) .here) }
+
+pub past-onward : {text out : List ℕ} {place : Place} {h : Sheet} {accepting : List ℕ} {rows : List Row} {t : Placed} {us : Ts} {part : Part} {end : ℕ}
+    → Emitted text out place h accepting rows (t ∷ us) part
+    → Passes text (place .at) 1 end
+    → place .at ≤ end
+past-onward e pass = omega (arith, pass .behind _ (e .stands .here) (omega arith) .onward)

@@ -4,11 +4,11 @@ use native.Mathlib.Omega.{arith}
 use native.Mathlib.Numerals.{add-one}
 use native.Mathlib.Decide.{decLt}
 use mathlib.Core.Path.{_≡_, refl, sym, _∙_, ap, subst}
-use mathlib.Core.Bool.{Bool, true, false, _&&_}
+use mathlib.Core.Bool.{Bool, true, false, not, _&&_}
 use mathlib.Core.List.{List, [], _∷_, cons≢nil}
 use lib.ListN.{length, getD, take, drop, length-drop}
 use lib.Seq.{drop-drop, drop-cons, take-all}
-use lib.Dec.{T, leb, leb→le}
+use lib.Dec.{T, leb, leb→le, eqb, T-not}
 use Rattle.bits.specs.Byte.{isDigit, isLetter}
 use Rattle.bits.proofs.Tests.{and-left, and-right, and-of}
 use Rattle.text.specs.Token as Spec
@@ -28,6 +28,7 @@ use Rattle.text.proofs.Once.{comes}
 use Rattle.text.proofs.Follow.{placeOf, first-onward}
 use Rattle.rule.specs.Limits.{valueFrom}
 use Rattle.compiler.specs.Seeing as Seen
+use Rattle.compiler.proofs.Tags.{wordTag, signTag}
 use Rattle.compiler.specs.Seeing.{Here, Behind, SeenAs, nothing, Reaches, Digits}
 
 -- what each answer shows
@@ -205,3 +206,48 @@ pub seen-sign : {text : List ℕ} {from p e b q : ℕ} {l : List ℕ} {us : List
     → l ≡ written y
     → g ≡ y
 seen-sign y (Seen.aSign {x = g} h k) is = sign-same g y (sym h ∙ is)
+
+-- a sign that is seen, but for the semicolon, stands there
+pub record SignAt (text : List ℕ) (from end : ℕ) (y : Sign) (ts : List Placed) : Type 0 where
+  pub place : ℕ
+  pub rest : List Placed
+  pub is : ts ≡ (sign (written y) at place) ∷ rest
+  pub behind : Behind text from end rest
+
+-- and so does a reserved word
+pub record WordAt (text : List ℕ) (from end : ℕ) (y : Word) (ts : List Placed) : Type 0 where
+  pub place : ℕ
+  pub rest : List Placed
+  pub bytes : List ℕ
+  pub which : IsWord y bytes
+  pub is : ts ≡ (word bytes at place) ∷ rest
+  pub behind : Behind text from end rest
+
+no-semicolon : (y : Sign) → T (not (eqb (signTag y) 18)) → Sign.Semicolon ≡ y → ⊥
+no-semicolon y t e = T-not (eqb (signTag y) 18) t (subst (λ (n : ℕ). T (eqb n 18)) (ap signTag e) tt)
+
+no-other : (y : Word) → T (not (eqb (wordTag y) 20)) → Word.Other ≡ y → ⊥
+no-other y t e = T-not (eqb (wordTag y) 20) t (subst (λ (n : ℕ). T (eqb n 20)) (ap wordTag e) tt)
+
+pub sign-at : {text : List ℕ} {from p e b : ℕ} {ts : List Placed} {x : Word} {g : Sign} (y : Sign)
+    → T (not (eqb (signTag y) 18))
+    → SeenAs text from ts x g b p e
+    → g ≡ y
+    → SignAt text from e y ts
+sign-at y t (Seen.aWord w h) is = absurd (no-semicolon y t is)
+sign-at y t (Seen.aNumber n d o h) is = absurd (no-semicolon y t is)
+sign-at y t (Seen.aLetter b h) is = absurd (no-semicolon y t is)
+sign-at y t (Seen.aSign {p = q} {us = us} l h) is =
+    record { place = q; rest = us; is = ap (λ (bytes : List ℕ). (sign bytes at q) ∷ us) (l ∙ ap written is); behind = h }
+sign-at y t Seen.nothing is = absurd (no-semicolon y t is)
+
+pub word-at : {text : List ℕ} {from p e b : ℕ} {ts : List Placed} {x : Word} {g : Sign} (y : Word)
+    → T (not (eqb (wordTag y) 20))
+    → SeenAs text from ts x g b p e
+    → x ≡ y
+    → WordAt text from e y ts
+word-at y t (Seen.aWord {l = l} w h) is = record { place = _; rest = _; bytes = l; which = subst (λ (z : Word). IsWord z l) is w; is = refl; behind = h }
+word-at y t (Seen.aNumber n d o h) is = absurd (no-other y t is)
+word-at y t (Seen.aLetter b h) is = absurd (no-other y t is)
+word-at y t (Seen.aSign l h) is = absurd (no-other y t is)
+word-at y t Seen.nothing is = absurd (no-other y t is)

@@ -6,6 +6,18 @@ use mathlib.Core.List.{List, [], _∷_}
 use lib.Dec.{T}
 use mir.Val.{hasKey}
 use types.Run.{OneOf, miss}
+use denote.Enum.Declared.{tagOf}
+use Rattle.text.specs.declared.Word.{Word}
+use Rattle.text.specs.declared.Sign.{Sign}
+use Rattle.text.proofs.Word.{the-type as word-type}
+use Rattle.text.proofs.Sign.{the-type as sign-type}
+
+-- the number of a word, of a sign
+abbrev pub wordTag : Word → ℕ
+wordTag = tagOf word-type
+
+abbrev pub signTag : Sign → ℕ
+signTag = tagOf sign-type
 
 -- the numbers from a first one on, as many as asked, but for these
 abbrev pub tagsFrom : ℕ → ℕ → List ℕ → List ℕ

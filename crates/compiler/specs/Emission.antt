@@ -1,7 +1,7 @@
 -- What the emitter's functions promise each other: which part of the table each writes for which tokens. No caller relies on any of it.
 use Prim.Native.Nat.{ℕ, suc, _+_, _≤_, _<_}
 use mathlib.Core.Path.{_≡_}
-use mathlib.Core.Bool.{Bool, true, false}
+use mathlib.Core.Bool.{Bool, true, false, not}
 use mathlib.Core.List.{List, [], _∷_, _++_}
 use lib.ListN.{length}
 use Rattle.text.specs.Token.{Token, w, s}
@@ -36,6 +36,7 @@ use Rattle.compiler.specs.Construction.{
 use Rattle.compiler.specs.Writing.{Sheet, Filled}
 use Rattle.compiler.specs.Seeing.{Here}
 use Rattle.compiler.specs.declared.Place.{Place}
+use Rattle.compiler.specs.declared.walk.Course.{Course}
 
 -- the emitter stands at a place: so much is written, these states are meant, and these tokens are ahead
 pub record At (text out : List ℕ) (place : Place) (h : Sheet) (accepting : List ℕ) (rows : List Row) (p next : ℕ) (ts : Ts) : Type 0 where
@@ -116,6 +117,29 @@ joins false = middle
 abbrev pub joined : Bool → Binding
 joined true = middle
 joined false = tightest
+
+-- an operator takes a state under one of the two signs: `&&` where the condition is to hold, `||` where it is to fail
+abbrev pub takes : Bool → Bool → Bool
+takes true sign = not sign
+takes false sign = sign
+
+-- then what it joins is walked one after the other by way of that state, and else both the same way
+abbrev pub viaTo : Bool → ℕ → ℕ → ℕ
+viaTo true to next = next
+viaTo false to next = to
+
+abbrev pub viaFrom : Bool → ℕ → ℕ → ℕ
+viaFrom true p next = next
+viaFrom false p next = p
+
+abbrev pub viaNext : Bool → ℕ → ℕ
+viaNext true next = suc next
+viaNext false next = next
+
+pub record Goes (taking : Bool) (to : ℕ) (place : Place) (course : Course) : Type 0 where
+  pub first : course .to ≡ viaTo taking to (place .next)
+  pub second : course .from ≡ viaFrom taking (place .state) (place .next)
+  pub takes : course .next ≡ viaNext taking (place .next)
 
 -- a condition in its own parentheses, both ways
 pub data TestTask (yes no : ℕ) (alphabet : List ℕ) (p next : ℕ) : Ts → Ts → Part → Type 0 where

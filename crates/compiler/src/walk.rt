@@ -7,8 +7,10 @@ ghost use Prim.Native.Nat.{ℕ};
 ghost use Rattle.compiler.specs.Construction.{allSymbols, without, symbolRows};
 ghost use Rattle.compiler.specs.Writing.{Held, Room, Writes};
 ghost use Rattle.compiler.specs.Atoms.{counterRows, readRows, Codes, Compares};
-ghost use Rattle.compiler.specs.Emission.{Ready, Emits, AtomTask};
+ghost use Rattle.compiler.specs.Emission.{Ready, Emits, AtomTask, WalkTask, joins, joined, takes, Goes};
+ghost use Rattle.rule.specs.Grammar.{tightest};
 use super::Place;
+use super::ahead::operator_ahead;
 use super::see::past;
 use super::see::see;
 use super::write;
@@ -131,5 +133,111 @@ fn atom(text: &[u8], out: &mut [u8], place: Place, to: usize, sign: bool) -> Pla
         state: place.state,
         next: place.next,
         row,
+    }
+}
+
+// What binds tightest: an atom, a negation, a condition in parentheses.
+fn operand(text: &[u8], out: &mut [u8], place: Place, to: usize, sign: bool) -> Place
+    requires { ⌜ Ready (WalkTask tightest to sign) (now text) (now out) place ⌝ }
+    ensures { λ r. ⌜ Emits (WalkTask tightest to sign) (now (text .entry)) (now (out .entry)) (now (out .exit)) place r ⌝ }
+{
+    let t = see(text, place.at);
+    let behind = Place {
+        at: t.end,
+        state: place.state,
+        next: place.next,
+        row: place.row,
+    };
+    let first = t.sign;
+    match first {
+        Sign::Not => operand(text, out, behind, to, !sign),
+        Sign::OpenParen => {
+            let inner = chain(text, out, behind, to, sign, true);
+            Place {
+                at: past(text, inner.at, 1),
+                state: inner.state,
+                next: inner.next,
+                row: inner.row,
+            }
+        }
+        _ => atom(text, out, place, to, sign),
+    }
+}
+
+// What an operator joins: of `||` what `&&` joins, of `&&` what binds tightest.
+fn side(text: &[u8], out: &mut [u8], place: Place, to: usize, sign: bool, or: bool) -> Place
+    requires { ⌜ Ready (WalkTask (joined or) to sign) (now text) (now out) place ⌝ }
+    ensures { λ r. ⌜ Emits (WalkTask (joined or) to sign) (now (text .entry)) (now (out .entry)) (now (out .exit)) place r ⌝ }
+{
+    if or {
+        chain(text, out, place, to, sign, false)
+    } else {
+        operand(text, out, place, to, sign)
+    }
+}
+
+// Whether an operator takes a state: `&&` where the condition is to hold, `||` where it is to fail.
+fn takes_state(sign: bool, or: bool) -> bool
+    ensures { λ r. ⌜ r ≡ takes or sign ⌝ }
+{
+    if or { !sign } else { sign }
+}
+
+// Where what stands before an operator is walked to, where what stands behind it is walked from, and the next state to be
+// taken.
+struct Course {
+    to: usize,
+    from: usize,
+    next: usize,
+}
+
+fn way(place: Place, to: usize, taking: bool) -> Course
+    requires { ⌜ place .next ≤ 128 ⌝ }
+    ensures { λ r. ⌜ Goes taking to place r ⌝ }
+{
+    if taking {
+        Course {
+            to: place.next,
+            from: place.next,
+            next: place.next + 1,
+        }
+    } else {
+        Course {
+            to,
+            from: place.state,
+            next: place.next,
+        }
+    }
+}
+
+// What `||` joins, or, if `or` is false, what `&&` joins. Both group to the right.
+fn chain(text: &[u8], out: &mut [u8], place: Place, to: usize, sign: bool, or: bool) -> Place
+    requires { ⌜ Ready (WalkTask (joins or) to sign) (now text) (now out) place ⌝ }
+    ensures { λ r. ⌜ Emits (WalkTask (joins or) to sign) (now (text .entry)) (now (out .entry)) (now (out .exit)) place r ⌝ }
+{
+    if operator_ahead(text, place.at, or) {
+        let w = way(place, to, takes_state(sign, or));
+        let start = Place {
+            at: place.at,
+            state: place.state,
+            next: w.next,
+            row: place.row,
+        };
+        let first = side(text, out, start, w.to, sign, or);
+        let behind = Place {
+            at: past(text, first.at, 1),
+            state: w.from,
+            next: first.next,
+            row: first.row,
+        };
+        let last = chain(text, out, behind, to, sign, or);
+        Place {
+            at: last.at,
+            state: place.state,
+            next: last.next,
+            row: last.row,
+        }
+    } else {
+        side(text, out, place, to, sign, or)
     }
 }
