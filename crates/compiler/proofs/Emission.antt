@@ -9,7 +9,7 @@ use Rattle.table.specs.Table.{Row}
 use Rattle.rule.specs.Grammar.{Ts}
 use Rattle.compiler.specs.Construction.{Part}
 use Rattle.compiler.specs.Writing.{Sheet, Holds, Held, Filled, Room, Writes}
-use Rattle.compiler.specs.Seeing.{Here, Passes}
+use Rattle.compiler.specs.Seeing.{Here, Reaches, Passes}
 use Rattle.compiler.specs.Emission.{At, Task, Doing, Ready, Emitted, rowsPart}
 use Rattle.compiler.specs.declared.Place.{Place}
 
@@ -97,3 +97,15 @@ pub past-onward : {text out : List ℕ} {place : Place} {h : Sheet} {accepting :
     → Passes text (place .at) 1 end
     → place .at ≤ end
 past-onward e pass = omega (arith, pass .behind _ (e .stands .here) (omega arith) .onward)
+
+-- past a first token
+module _ {text out : List ℕ} {place : Place} {h : Sheet} {accepting : List ℕ} {rows : List Row} {p next : ℕ} {ts : Ts} {t : Placed} {us : Ts} {end : ℕ}
+    (stands : At text out place h accepting rows p next ts) (is : ts ≡ t ∷ us) (pass : Passes text (place .at) 1 end) where
+  reaches : Reaches text (place .at) 1 end us
+  reaches = pass .behind (t ∷ us) (subst (Here text (place .at)) is (stands .here)) (omega arith)
+
+  pub at-past : At text out (record { at = end; state = place .state; next = place .next; row = place .row }) h accepting rows p next us
+  at-past = at-moved end stands (reaches .here)
+
+  pub at-onward : place .at < end
+  at-onward = omega (arith, reaches .onward)

@@ -20,11 +20,11 @@ use Rattle.table.specs.Table.{Row}
 use Rattle.rule.specs.Tree.{Atom, Condition}
 use Rattle.rule.specs.Grammar.{Ts, IsSought, IsAtom, readIs, readIsNot, counterIs, counterIsNot, Binding, loosest, tightest, IsCondition, atom, parens, negation, tighter, both, tight, either}
 use Rattle.rule.proofs.Within.{ConditionWithin}
-use Rattle.compiler.specs.Construction.{Part, symbolCode, atomRows, Added, walk, oneAfterOther, oneOrOther}
+use Rattle.compiler.specs.Construction.{Part, symbolCode, atomRows, Added, walk, oneAfterOther, oneOrOther, test}
 use Rattle.compiler.specs.Writing.{Sheet, Held, Filled, Room, Writes}
 use Rattle.compiler.specs.Seeing.{Here, SeenAs, Sees, Passes}
 use Rattle.compiler.specs.Atoms.{counterRows, readRows, Codes, Compares}
-use Rattle.compiler.specs.Emission.{At, Task, Doing, Ready, Emitted, Emits, rowsPart, addedPart, AtomTask, anAtom, Closes, byParen, byOr, byAny, WalkTask, walks, joins, joined, takes, viaTo, viaFrom, viaNext, Goes}
+use Rattle.compiler.specs.Emission.{At, Task, Doing, Ready, Emitted, Emits, rowsPart, addedPart, AtomTask, anAtom, Closes, byParen, byOr, byAny, WalkTask, walks, joins, joined, takes, viaTo, viaFrom, viaNext, Goes, TestTask, tests}
 use Rattle.compiler.specs.Operators.{ahead, Ahead}
 use Rattle.compiler.specs.declared.Place.{Place}
 use Rattle.compiler.specs.declared.walk.Course.{Course}
@@ -34,7 +34,7 @@ use Rattle.compiler.proofs.Tags.{wordTag, signTag, wordTags, signTags, 
 use Rattle.compiler.proofs.Operators.{operator, join, Operands, no-operator, one-operator}
 use Rattle.compiler.proofs.Seeing.{here-some, seen-sign, SignAt, sign-at}
 use Rattle.compiler.proofs.AtomTokens.{Compared, CounterAtom, counter-atom, ReadAtom, read-atom}
-use Rattle.compiler.proofs.Emission.{at-room, at-rows, at-moved, emitted-as, rows-emitted, fits-first, fits-then}
+use Rattle.compiler.proofs.Emission.{at-room, at-rows, at-moved, at-past, at-onward, emitted-as, emitted-past, rows-emitted, fits-first, fits-then}
 
 -- an atom's task by its parts
 record AtomOf (to : ℕ) (sign : Bool) (alphabet : List ℕ) (p next : ℕ) (ts us : Ts) (part : Part) : Type 0 where
@@ -436,3 +436,100 @@ module _ {sought is : Bool} (same : sought ≡ is) {text out : List ℕ} {place 
 
   pub side-emits : {after : List ℕ} {r : Place} → Emits (WalkTask (joined is) to sign) text out after place r → Emits (WalkTask (joined sought) to sign) text out after place r
   side-emits {after} {r} e = subst (λ (b : Bool). Emits (WalkTask (joined b) to sign) text out after place r) (sym same) e
+
+-- a condition in its own parentheses
+pub record TestOf (yes no : ℕ) (alphabet : List ℕ) (p next : ℕ) (ts us : Ts) (part : Part) : Type 0 where
+  pub opens : ℕ
+  pub closes : ℕ
+  pub inner : Ts
+  pub condition : Condition
+  pub starts : ts ≡ (s "(" at opens) ∷ inner
+  pub holding : WalkTask loosest yes true alphabet p next inner ((s ")" at closes) ∷ us) (addedPart (walk alphabet condition true p yes next) p)
+  pub failing : WalkTask loosest no false alphabet p (walk alphabet condition true p yes next .next) inner ((s ")" at closes) ∷ us) (addedPart (walk alphabet condition false p no (walk alphabet condition true p yes next .next)) p)
+  pub is : part ≡ addedPart (test alphabet condition p yes no next) p
+  pub grows : next ≤ walk alphabet condition true p yes next .next
+  pub later : walk alphabet condition true p yes next .next ≤ test alphabet condition p yes no next .next
+
+pub test-of : {yes no : ℕ} {alphabet : List ℕ} {p next : ℕ} {ts us : Ts} {part : Part} → TestTask yes no alphabet p next ts us part → TestOf yes no alphabet p next ts us part
+unfolding test
+test-of {yes} {no} {alphabet} {p} {next} (tests {c = c} d within y n) =
+    let grown = leads-walk alphabet c true p yes next .grows in
+    record {
+      opens = _;
+      closes = _;
+      inner = _;
+      condition = c;
+      starts = refl;
+      holding = walks d byParen within y;
+      failing = walks d byParen within (omega arith);
+      is = refl;
+      grows = grown;
+      later = leads-walk alphabet c false p no (walk alphabet c true p yes next .next) .grows;
+    }
+
+module _ {text out : List ℕ} {place : Place} {yes no : ℕ} {start : ℕ} (enters : Passes text (place .at) 1 start)
+    {h : Sheet} {accepting : List ℕ} {rows : List Row} {p next : ℕ} {ts us : Ts} {part : Part}
+    (d : Doing (TestTask yes no) text out place h accepting rows p next ts us part) where
+  abbrev tested : TestOf yes no (h .alphabet) p next ts us part
+  tested = test-of (d .is)
+
+  abbrev held : Added
+  held = walk (h .alphabet) (tested .condition) true p yes next
+
+  abbrev failed : Added
+  failed = walk (h .alphabet) (tested .condition) false p no (held .next)
+
+  abbrev inside-parens : Place
+  inside-parens = record { at = start; state = place .state; next = place .next; row = place .row }
+
+  tests-fit : length rows + length (held .rows ++ failed .rows) ≤ h .count
+  unfolding test
+  tests-fit = subst (λ (x : Part). length rows + length (x .rows) ≤ h .count) (tested .is) (d .fits)
+
+  tests-few : failed .next ≤ 128
+  unfolding test
+  tests-few = subst (λ (x : Part). x .next ≤ 128) (tested .is) (d .states)
+
+  -- it holds
+  pub holding-doing : Doing (WalkTask loosest yes true) text out inside-parens h accepting rows p next (tested .inner) ((s ")" at (tested .closes)) ∷ us) (addedPart held p)
+  unfolding test
+  holding-doing =
+      record {
+        stands = at-past (d .stands) (tested .starts) enters;
+        is = tested .holding;
+        states = omega (arith, tested .later, tests-few);
+        fits = fits-first rows (held .rows) (failed .rows) tests-fit;
+      }
+
+  pub tests-onward : place .at < start
+  tests-onward = at-onward (d .stands) (tested .starts) enters
+
+  -- it fails
+  pub failing-doing : {middle : List ℕ} {r : Place}
+      → Emitted text middle r h accepting rows ((s ")" at (tested .closes)) ∷ us) (addedPart held p)
+      → Doing (WalkTask loosest no false) text middle (record { at = start; state = r .state; next = r .next; row = r .row }) h (accepting ++ []) (rows ++ held .rows) p (held .next) (tested .inner) ((s ")" at (tested .closes)) ∷ us) (addedPart failed p)
+  failing-doing e =
+      record {
+        stands = at-moved start (e .stands) (holding-doing .stands .here);
+        is = tested .failing;
+        states = tests-few;
+        fits = fits-then rows (held .rows) (failed .rows) tests-fit;
+      }
+
+  -- both
+  pub tests-emitted : {after : List ℕ} {last : Place} {end : ℕ}
+      → Emitted text after last h (accepting ++ []) (rows ++ held .rows) ((s ")" at (tested .closes)) ∷ us) (addedPart failed p)
+      → Passes text (last .at) 1 end
+      → Emitted text after (record { at = end; state = last .state; next = last .next; row = last .row }) h accepting rows us part
+  unfolding test
+  tests-emitted {after} {last} {end} e pass =
+      let f = emitted-past e pass in
+      emitted-as (tested .is)
+      (rows-emitted (f .stands .here)
+      (subst₂ (λ (a : List ℕ) (x : List Row). Filled h a x after (last .row))
+      (append-nil (accepting ++ []) ∙ append-nil accepting)
+      (append-assoc rows (held .rows) (failed .rows))
+      (f .stands .filled))
+      (f .stands .state)
+      (f .stands .takes)
+      (f .stands .taken))

@@ -7,7 +7,7 @@ ghost use Prim.Native.Nat.{ℕ};
 ghost use Rattle.compiler.specs.Construction.{allSymbols, without, symbolRows};
 ghost use Rattle.compiler.specs.Writing.{Held, Room, Writes};
 ghost use Rattle.compiler.specs.Atoms.{counterRows, readRows, Codes, Compares};
-ghost use Rattle.compiler.specs.Emission.{Ready, Emits, AtomTask, WalkTask, joins, joined, takes, Goes};
+ghost use Rattle.compiler.specs.Emission.{Ready, Emits, AtomTask, WalkTask, joins, joined, takes, Goes, TestTask};
 ghost use Rattle.rule.specs.Grammar.{tightest};
 use super::Place;
 use super::ahead::operator_ahead;
@@ -239,5 +239,33 @@ fn chain(text: &[u8], out: &mut [u8], place: Place, to: usize, sign: bool, or: b
         }
     } else {
         side(text, out, place, to, sign, or)
+    }
+}
+
+// A condition in its own parentheses: its rows from the place's state to `yes`, and those of its negation to `no`.
+pub fn tested(text: &[u8], out: &mut [u8], place: Place, yes: usize, no: usize) -> Place
+    requires { ⌜ Ready (TestTask yes no) (now text) (now out) place ⌝ }
+    ensures { λ r. ⌜ Emits (TestTask yes no) (now (text .entry)) (now (out .entry)) (now (out .exit)) place r ⌝ }
+{
+    let inside = past(text, place.at, 1);
+    let start = Place {
+        at: inside,
+        state: place.state,
+        next: place.next,
+        row: place.row,
+    };
+    let holding = chain(text, out, start, yes, true, true);
+    let again = Place {
+        at: inside,
+        state: holding.state,
+        next: holding.next,
+        row: holding.row,
+    };
+    let failing = chain(text, out, again, no, false, true);
+    Place {
+        at: past(text, failing.at, 1),
+        state: failing.state,
+        next: failing.next,
+        row: failing.row,
     }
 }
