@@ -17,3 +17,4 @@ pub mod Emission
 pub mod AtomRows
 pub mod AtomTokens
 pub mod Walking
+pub mod Stepping

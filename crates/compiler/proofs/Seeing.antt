@@ -251,3 +251,27 @@ word-at y t (Seen.aNumber n d o h) is = absurd (no-other y t is)
 word-at y t (Seen.aLetter b h) is = absurd (no-other y t is)
 word-at y t (Seen.aSign l h) is = absurd (no-other y t is)
 word-at y t Seen.nothing is = absurd (no-other y t is)
+
+-- what is seen of a number
+pub record NumberSeen (text : List ℕ) (from : ℕ) (n : List ℕ) (us : List Placed) (g : Sign) (p e : ℕ) : Type 0 where
+  pub noSign : g ≡ Sign.Semicolon
+  pub bytes : n ≡ part text p e
+  pub digits : T (every isDigit n)
+  pub order : p ≤ e
+  pub behind : Behind text from e us
+
+pub seen-number : {text : List ℕ} {from p e b q : ℕ} {n : List ℕ} {us : List Placed} {x : Word} {g : Sign}
+    → SeenAs text from ((number n at q) ∷ us) x g b p e
+    → NumberSeen text from n us g p e
+seen-number (Seen.aNumber is digits order behind) =
+    record { noSign = refl; bytes = is; digits = digits; order = order; behind = behind }
+
+-- a small number's digits can be counted
+pub seen-digits : {text : List ℕ} {from : ℕ} {n : List ℕ} {us : List Placed} {g : Sign} {p e : ℕ} → NumberSeen text from n us g p e → valueFrom 0 n ≤ 63 → Digits text p e
+seen-digits {text} {n = n} {p = p} {e = e} seen small =
+    record {
+      order = seen .order;
+      within = seen .behind .within;
+      digits = subst (λ (l : List ℕ). T (every isDigit l)) (seen .bytes) (seen .digits);
+      small = subst (λ (l : List ℕ). valueFrom 0 l ≤ 63) (seen .bytes) small;
+    }

@@ -23,6 +23,8 @@ use Rattle.rule.specs.Grammar.{
 }
 use Rattle.rule.proofs.Within.{AtomWithin, ConditionWithin, StatementWithin, StatementsWithin, ArmsWithin}
 use Rattle.compiler.specs.Construction.{
+  anySymbol,
+  eitherCounter,
   free,
   atomRows,
   Added,
@@ -33,8 +35,8 @@ use Rattle.compiler.specs.Construction.{
   statementsPart,
   armsPart,
 }
-use Rattle.compiler.specs.Writing.{Sheet, Filled}
-use Rattle.compiler.specs.Seeing.{Here}
+use Rattle.compiler.specs.Writing.{Sheet, Filled, Writes}
+use Rattle.compiler.specs.Seeing.{Here, Passes}
 use Rattle.compiler.specs.declared.Place.{Place}
 use Rattle.compiler.specs.declared.walk.Course.{Course}
 
@@ -175,6 +177,25 @@ pub data HeadedTask (head : Token) (alphabet : List ℕ) (p next : ℕ) : Ts →
   headed : {k : ℕ} {ts us : Ts} {part : Part}
       → StatementTask alphabet p next ((head at k) ∷ ts) us part
       → HeadedTask head alphabet p next ts us part
+
+-- a plain statement's row, and the part that it is
+abbrev pub stepRow : ℕ → ℕ → ℕ → ℕ → Row
+stepRow motion change p q =
+    record { from = p; symbol = anySymbol; test = eitherCounter; move = motion; change = change; to = q }
+
+-- it is written, and the text goes on behind so many tokens from a place on
+pub record Steps (text before after : List ℕ) (place : Place) (from many motion change : ℕ) (r : Place) : Type 0 where
+  pub passes : Passes text from many (r .at)
+  pub state : r .state ≡ place .next
+  pub takes : r .next ≡ suc (place .next)
+  pub writes : Writes before after (place .row) (r .row) (λ _. stepRow motion change (place .state) (place .next) ∷ [])
+
+-- a state is taken without a row
+pub record Stops (text : List ℕ) (place r : Place) : Type 0 where
+  pub passes : Passes text (place .at) 1 (r .at)
+  pub state : r .state ≡ place .next
+  pub takes : r .next ≡ suc (place .next)
+  pub row : r .row ≡ place .row
 
 -- what is left of a block
 pub data RestTask (alphabet : List ℕ) (p next : ℕ) : Ts → Ts → Part → Type 0 where
