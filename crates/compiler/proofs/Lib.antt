@@ -17,3 +17,13 @@ pub mod ToTable
 pub mod Sound
 pub mod ToProgram
 pub mod Agree
+-- what the emitter writes and sees
+pub mod Writing
+pub mod Tags
+pub mod Seeing
+pub mod Operators
+pub mod Emission
+pub mod AtomRows
+pub mod AtomTokens
+pub mod Walking
+pub mod Stepping

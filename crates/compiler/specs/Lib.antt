@@ -2,3 +2,8 @@
 pub mod Construction
 pub mod Compile
 pub mod Line
+pub mod Seeing
+pub mod Operators
+pub mod Writing
+pub mod Emission
+pub mod Atoms

@@ -11,6 +11,7 @@ pub mod Viable
 pub mod Trace
 pub mod Outcomes
 -- trees without faults
+pub mod Invert
 pub mod Within
 -- what the readers answer, by the machine
 pub mod Front

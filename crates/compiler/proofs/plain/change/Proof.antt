@@ -1,0 +1,163 @@
+-- The sign says how the counter changes. Assumes nothing.
+use Prim.Native.Nat.{ℕ, _+_, _-_}
+use native.Mathlib.Omega.{arith}
+use Rattle.compiler.proofs.Stepping.{
+  step-room,
+  step-emitted,
+  step-onward,
+  stepping-by,
+  up-short,
+  down-short,
+  up-counted,
+  down-counted,
+}
+use borrow.Author.Needs.{needs}
+use Rattle.compiler.proofs.plain.change.Statement.{statement}
+use Rattle.compiler.proofs.plain.change.Tie as tie
+
+see-requires : tie.Need-see-requires
+see-requires c κs = search needs
+
+enum-told : tie.Need-enum-told
+enum-told c = search needs
+
+step-requires : tie.Need-step-requires
+step-requires c κs =
+    let d = c .before .before .before .before .before .before .pre .doing in
+    step-room d (up-short (c .before .before .before .see .ensures) d (c .before .enum-told .given .1) .stepping)
+
+enum-told-2 : tie.Need-enum-told-2
+enum-told-2 c = search needs
+
+step-requires-2 : tie.Need-step-requires-2
+step-requires-2 c κs =
+    let d = c .before .before .before .before .before .before .pre .doing in
+    step-room d (down-short (c .before .before .before .see .ensures) d (c .before .enum-told2 .given .1) .stepping)
+
+enum-told-3 : tie.Need-enum-told-3
+enum-told-3 c = search needs
+
+see-requires-2 : tie.Need-see-requires-2
+see-requires-2 c κs = search needs
+
+number-requires : tie.Need-number-requires
+number-requires c κs = up-counted (c .before .before .before .see .ensures) (c .before .before .before .before .before .before .pre .doing) (c .before .enum-told3 .given .1) (c .see2 .ensures) .digits
+
+add-step : tie.Need-add-step
+add-step c =
+    let n = up-counted (c .before .before .before .before .before .see .ensures) (c .before .before .before .before .before .before .before .before .pre .doing) (c .before .before .before .enum-told3 .given .1) (c .before .before .see2 .ensures) in
+    omega (arith, n .small, c .before .number .ensures)
+
+step-requires-3 : tie.Need-step-requires-3
+step-requires-3 c κs =
+    let d = c .before .before .before .before .before .before .before .before .pre .doing in
+    let n = up-counted (c .before .before .before .before .before .see .ensures) d (c .before .before .before .enum-told3 .given .1) (c .before .before .see2 .ensures) in
+    step-room d (stepping-by (λ _. 64) (λ (v : ℕ). 31 + v) _ n (c .before .number .ensures))
+
+see-requires-3 : tie.Need-see-requires-3
+see-requires-3 c κs = search needs
+
+number-requires-2 : tie.Need-number-requires-2
+number-requires-2 c κs = down-counted (c .before .before .see .ensures) (c .before .before .before .before .before .pre .doing) (c .before .match .keys4) (c .see3 .ensures) .digits
+
+sub-step : tie.Need-sub-step
+sub-step c =
+    let n = down-counted (c .before .before .before .before .see .ensures) (c .before .before .before .before .before .before .before .pre .doing) (c .before .before .before .match .keys4) (c .before .before .see3 .ensures) in
+    omega (arith, n .small, c .before .number2 .ensures)
+
+step-requires-4 : tie.Need-step-requires-4
+step-requires-4 c κs =
+    let d = c .before .before .before .before .before .before .before .pre .doing in
+    let n = down-counted (c .before .before .before .before .see .ensures) d (c .before .before .before .match .keys4) (c .before .before .see3 .ensures) in
+    step-room d (stepping-by (λ _. 64) (λ (v : ℕ). 31 - v) _ n (c .before .number2 .ensures))
+
+same-length : tie.Need-same-length
+same-length c = search needs
+
+returns : tie.Need-returns
+returns c =
+    let sees = c .before .before .before .before .before .before .see .ensures in
+    let is = c .before .before .before .before .enum-told .given .1 in
+    let steps = c .before .before .step .ensures in
+    let d₀ = c .before .before .before .before .before .before .before .before .before .pre .doing in
+    let s₀ = up-short sees d₀ is in
+    record {
+      emits = λ d. step-emitted d (up-short sees d is .stepping) steps;
+      onward = step-onward d₀ (s₀ .stepping) steps (s₀ .onward);
+    }
+
+same-length-2 : tie.Need-same-length-2
+same-length-2 c = search needs
+
+returns-2 : tie.Need-returns-2
+returns-2 c =
+    let sees = c .before .before .before .before .before .before .see .ensures in
+    let is = c .before .before .before .before .enum-told2 .given .1 in
+    let steps = c .before .before .step2 .ensures in
+    let d₀ = c .before .before .before .before .before .before .before .before .before .pre .doing in
+    let s₀ = down-short sees d₀ is in
+    record {
+      emits = λ d. step-emitted d (down-short sees d is .stepping) steps;
+      onward = step-onward d₀ (s₀ .stepping) steps (s₀ .onward);
+    }
+
+same-length-3 : tie.Need-same-length-3
+same-length-3 c = search needs
+
+returns-3 : tie.Need-returns-3
+returns-3 c =
+    let sees = c .before .before .before .before .before .before .before .before .see .ensures in
+    let is = c .before .before .before .before .before .before .enum-told3 .given .1 in
+    let more = c .before .before .before .before .before .see2 .ensures in
+    let value = c .before .before .before .before .number .ensures in
+    let steps = c .before .before .step3 .ensures in
+    let d₀ = c .before .before .before .before .before .before .before .before .before .before .before .pre .doing in
+    let n₀ = up-counted sees d₀ is more in
+    record {
+      emits = λ d. step-emitted d (stepping-by (λ _. 64) (λ (v : ℕ). 31 + v) _ (up-counted sees d is more) value) steps;
+      onward = step-onward d₀ (stepping-by (λ _. 64) (λ (v : ℕ). 31 + v) _ n₀ value) steps (n₀ .onward);
+    }
+
+same-length-4 : tie.Need-same-length-4
+same-length-4 c = search needs
+
+returns-4 : tie.Need-returns-4
+returns-4 c =
+    let sees = c .before .before .before .before .before .before .before .see .ensures in
+    let other = c .before .before .before .before .before .before .match .keys4 in
+    let more = c .before .before .before .before .before .see3 .ensures in
+    let value = c .before .before .before .before .number2 .ensures in
+    let steps = c .before .before .step4 .ensures in
+    let d₀ = c .before .before .before .before .before .before .before .before .before .before .pre .doing in
+    let n₀ = down-counted sees d₀ other more in
+    record {
+      emits = λ d. step-emitted d (stepping-by (λ _. 64) (λ (v : ℕ). 31 - v) _ (down-counted sees d other more) value) steps;
+      onward = step-onward d₀ (stepping-by (λ _. 64) (λ (v : ℕ). 31 - v) _ n₀ value) steps (n₀ .onward);
+    }
+
+pub change-spec : {M : Type 1} → statement M
+change-spec =
+    tie.close
+    (tie.spec
+    see-requires
+    enum-told
+    step-requires
+    enum-told-2
+    step-requires-2
+    enum-told-3
+    see-requires-2
+    number-requires
+    add-step
+    step-requires-3
+    see-requires-3
+    number-requires-2
+    sub-step
+    step-requires-4
+    same-length
+    returns
+    same-length-2
+    returns-2
+    same-length-3
+    returns-3
+    same-length-4
+    returns-4)

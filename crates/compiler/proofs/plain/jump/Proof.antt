@@ -1,0 +1,70 @@
+-- The word says to which mark it goes. Assumes nothing.
+use Rattle.compiler.proofs.Stepping.{step-room, step-emitted, step-onward, lend-short, rend-short}
+use borrow.Author.Needs.{needs}
+use Rattle.compiler.proofs.plain.jump.Statement.{statement}
+use Rattle.compiler.proofs.plain.jump.Tie as tie
+
+past-requires : tie.Need-past-requires
+past-requires c κs = search needs
+
+see-requires : tie.Need-see-requires
+see-requires c κs = search needs
+
+enum-told : tie.Need-enum-told
+enum-told c = search needs
+
+step-requires : tie.Need-step-requires
+step-requires c κs =
+    let d = c .before .before .before .before .before .before .before .pre .doing in
+    step-room d (lend-short (c .before .before .before .before .past .ensures) (c .before .before .before .see .ensures) d (c .before .enum-told .given .1) .stepping)
+
+step-requires-2 : tie.Need-step-requires-2
+step-requires-2 c κs =
+    let d = c .before .before .before .before .before .before .pre .doing in
+    step-room d (rend-short (c .before .before .before .past .ensures) (c .before .before .see .ensures) d (c .before .match .keys2) .stepping)
+
+same-length : tie.Need-same-length
+same-length c = search needs
+
+returns : tie.Need-returns
+returns c =
+    let pass = c .before .before .before .before .before .before .before .past .ensures in
+    let sees = c .before .before .before .before .before .before .see .ensures in
+    let is = c .before .before .before .before .enum-told .given .1 in
+    let steps = c .before .before .step .ensures in
+    let d₀ = c .before .before .before .before .before .before .before .before .before .before .pre .doing in
+    let s₀ = lend-short pass sees d₀ is in
+    record {
+      emits = λ d. step-emitted d (lend-short pass sees d is .stepping) steps;
+      onward = step-onward d₀ (s₀ .stepping) steps (s₀ .onward);
+    }
+
+same-length-2 : tie.Need-same-length-2
+same-length-2 c = search needs
+
+returns-2 : tie.Need-returns-2
+returns-2 c =
+    let pass = c .before .before .before .before .before .before .past .ensures in
+    let sees = c .before .before .before .before .before .see .ensures in
+    let other = c .before .before .before .before .match .keys2 in
+    let steps = c .before .before .step2 .ensures in
+    let d₀ = c .before .before .before .before .before .before .before .before .before .pre .doing in
+    let s₀ = rend-short pass sees d₀ other in
+    record {
+      emits = λ d. step-emitted d (rend-short pass sees d other .stepping) steps;
+      onward = step-onward d₀ (s₀ .stepping) steps (s₀ .onward);
+    }
+
+pub jump-spec : {M : Type 1} → statement M
+jump-spec =
+    tie.close
+    (tie.spec
+    past-requires
+    see-requires
+    enum-told
+    step-requires
+    step-requires-2
+    same-length
+    returns
+    same-length-2
+    returns-2)

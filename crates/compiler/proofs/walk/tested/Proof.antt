@@ -1,0 +1,48 @@
+-- The condition is walked twice, from the same byte of the text. Assumes nothing.
+use native.Mathlib.Omega.{arith}
+use Rattle.compiler.proofs.Emission.{ready, past-onward}
+use Rattle.compiler.proofs.Walking.{holding-doing, failing-doing, tests-onward, tests-emitted}
+use borrow.Author.Needs.{needs}
+use Rattle.compiler.proofs.walk.tested.Statement.{statement}
+use Rattle.compiler.proofs.walk.tested.Tie as tie
+
+past-requires : tie.Need-past-requires
+past-requires c κs = search needs
+
+chain-requires : tie.Need-chain-requires
+chain-requires c κs = ready (holding-doing (c .before .past .ensures) (c .before .before .before .before .pre .doing))
+
+chain-requires-2 : tie.Need-chain-requires-2
+chain-requires-2 c κs =
+    let enters = c .before .before .before .before .before .past .ensures in
+    let d = c .before .before .before .before .before .before .before .before .pre .doing in
+    ready (failing-doing enters d (c .before .before .before .chain .ensures .emits (holding-doing enters d)))
+
+past-requires-2 : tie.Need-past-requires-2
+past-requires-2 c κs = search needs
+
+same-length : tie.Need-same-length
+same-length c = search needs
+
+returns : tie.Need-returns
+returns c =
+    let enters = c .before .before .before .before .before .before .before .before .before .past .ensures in
+    let holding = c .before .before .before .before .before .before .before .chain .ensures in
+    let failing = c .before .before .before .chain2 .ensures in
+    let leaves = c .past2 .ensures in
+    let d₀ = c .before .before .before .before .before .before .before .before .before .before .before .before .pre .doing in
+    record {
+      emits = λ d. tests-emitted enters d (failing .emits (failing-doing enters d (holding .emits (holding-doing enters d)))) leaves;
+      onward =
+          omega (
+            arith,
+            tests-onward enters d₀,
+            failing .onward,
+            past-onward (failing .emits (failing-doing enters d₀ (holding .emits (holding-doing enters d₀)))) leaves,
+          );
+    }
+
+pub tested-spec : {M : Type 1} → statement M
+tested-spec =
+    tie.close
+    (tie.spec past-requires chain-requires chain-requires-2 past-requires-2 same-length returns)

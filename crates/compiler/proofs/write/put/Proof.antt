@@ -1,0 +1,31 @@
+use borrow.Author.Needs.{needs}
+use mathlib.Core.Path.{refl}
+use Rattle.compiler.proofs.Writing.{put-over}
+use Rattle.compiler.proofs.write.put.Statement.{statement}
+use Rattle.compiler.proofs.write.put.Tie as tie
+use Rattle.compiler.proofs.write.put.Reads as reads
+use Rattle.compiler.proofs.write.put.Lts as lts
+use Rattle.bytes.proofs.copy.Reads as copy-reads
+
+sub-copy : tie.Need-sub-copy
+sub-copy c = search needs
+
+part-copy-start : tie.Need-part-copy-start
+part-copy-start c = search needs
+
+part-copy-end : tie.Need-part-copy-end
+part-copy-end c = search needs
+
+copy-requires : tie.Need-copy-requires
+copy-requires c κs = search needs
+
+same-length : tie.Need-same-length
+same-length c = search needs
+
+returns : tie.Need-returns
+returns c =
+    put-over (c .before .before .before .before .before .before .args .out .now) (c .before .before .before .before .before .before .args .bytes .now) _ _ _ (c .before .before .before .before .before .before .pre) refl (c .before .before .copy .ensures .1)
+
+pub put-spec : {M : Type 1} → statement M
+put-spec =
+    tie.close (tie.spec sub-copy part-copy-start part-copy-end copy-requires same-length returns)

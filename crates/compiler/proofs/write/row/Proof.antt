@@ -1,0 +1,53 @@
+use borrow.Author.Needs.{needs}
+use native.Mathlib.Omega.{arith}
+use mathlib.Core.Path.{refl}
+use Rattle.compiler.proofs.Writing.{row-bytes, room-one, writes-row}
+use Rattle.compiler.proofs.write.row.Statement.{statement}
+use Rattle.compiler.proofs.write.row.Tie as tie
+use Rattle.compiler.proofs.write.row.Reads as reads
+use Rattle.compiler.proofs.write.row.Lts as lts
+use Rattle.compiler.proofs.write.high.Reads as high-reads
+use Rattle.compiler.proofs.write.low.Reads as low-reads
+use Rattle.compiler.proofs.write.put.Reads as put-reads
+
+high-requires : tie.Need-high-requires
+high-requires c κs = search needs
+
+low-requires : tie.Need-low-requires
+low-requires c κs = search needs
+
+high-requires-2 : tie.Need-high-requires-2
+high-requires-2 c κs = search needs
+
+low-requires-2 : tie.Need-low-requires-2
+low-requires-2 c κs = search needs
+
+slice-aggregate-put : tie.Need-slice-aggregate-put
+slice-aggregate-put c = search needs
+
+put-requires : tie.Need-put-requires
+put-requires c κs = omega (arith, room-one (c .before .before .before .before .before .before .before .pre .0))
+
+add-result : tie.Need-add-result
+add-result c = omega (arith, room-one (c .before .before .before .before .before .before .before .before .before .before .pre .0), c .before .before .before .before .before .before .before .before .before .before .good)
+
+same-length : tie.Need-same-length
+same-length c = search needs
+
+returns : tie.Need-returns
+returns c =
+    writes-row _ _ (row-bytes _ _ _ _ _ _ _ _ _ _ (c .before .before .before .before .before .before .before .before .high .ensures) (c .before .before .before .before .before .before .before .low .ensures) (c .before .before .before .before .before .before .high2 .ensures) (c .before .before .before .before .before .low2 .ensures)) (c .before .before .put .ensures) refl
+
+pub row-spec : {M : Type 1} → statement M
+row-spec =
+    tie.close
+    (tie.spec
+    high-requires
+    low-requires
+    high-requires-2
+    low-requires-2
+    slice-aggregate-put
+    put-requires
+    add-result
+    same-length
+    returns)

@@ -1,0 +1,271 @@
+// The condition walker. A condition is walked together with its sign from the place's state to another, and adds its rows.
+ghost use Prim.Native.Nat.{_+_, _≤_, _<_};
+ghost use mathlib.Core.Path.{_≡_};
+ghost use mathlib.Core.List.{List, [], _∷_};
+ghost use lib.ListN.{length, getD};
+ghost use Prim.Native.Nat.{ℕ};
+ghost use Rattle.compiler.specs.Construction.{allSymbols, without, symbolRows};
+ghost use Rattle.compiler.specs.Writing.{Held, Room, Writes};
+ghost use Rattle.compiler.specs.Atoms.{counterRows, readRows, Codes, Compares};
+ghost use Rattle.compiler.specs.Emission.{Ready, Emits, AtomTask, WalkTask, joins, joined, takes, Goes, TestTask};
+ghost use Rattle.rule.specs.Grammar.{tightest};
+use super::Place;
+use super::ahead::operator_ahead;
+use super::see::past;
+use super::see::see;
+use super::write;
+use text::Sign;
+use text::Word;
+
+// The code of what `read` is compared with.
+fn symbol(text: &[u8], out: &[u8], at: usize) -> u8
+    requires { ⌜ Held (now out) ⌝ }
+    ensures { λ r. ⌜ Codes (now (text .entry)) at (now (out .entry)) r ⌝ }
+{
+    let t = see(text, at);
+    let word = t.word;
+    match word {
+        Word::Lend => 16,
+        Word::Rend => 17,
+        _ => write::letter(out, t.byte),
+    }
+}
+
+// The symbols in order: the letters, the left mark, the right mark.
+fn nth(i: usize, letters: usize) -> u8
+    requires { ⌜ (letters ≤ 16) × (i < letters + 2) ⌝ }
+    ensures { λ r. ⌜ ((alphabet : List ℕ) → letters ≡ length alphabet → r ≡ getD (allSymbols alphabet) i 0) ⌝ }
+{
+    if i < letters {
+        i as u8
+    } else {
+        (i - letters + 16) as u8
+    }
+}
+
+// The row of one symbol, unless it is the one that is left out.
+fn unless(out: &mut [u8], at: usize, from: usize, to: usize, left_out: u8, symbol: u8) -> usize
+    requires { ⌜ Room (now out) at (λ _. symbolRows (without «left_out» (symbol ∷ [])) from to) × (from ≤ 128) × (to ≤ 128) ⌝ }
+    ensures { λ r. ⌜ Writes (now (out .entry)) (now (out .exit)) at r (λ _. symbolRows (without «left_out» (symbol ∷ [])) from to) ⌝ }
+{
+    if symbol == left_out {
+        at
+    } else {
+        write::test_row(out, at, from, symbol, 2, to)
+    }
+}
+
+// One row for each other symbol.
+fn others(out: &mut [u8], at: usize, from: usize, to: usize, left_out: u8) -> usize
+    requires { ⌜ Room (now out) at (λ alphabet. symbolRows (without «left_out» (allSymbols alphabet)) from to) × (from ≤ 128) × (to ≤ 128) ⌝ }
+    ensures { λ r. ⌜ Writes (now (out .entry)) (now (out .exit)) at r (λ alphabet. symbolRows (without «left_out» (allSymbols alphabet)) from to) ⌝ }
+{
+    let letters = write::letters(out);
+    let many = letters + 2;
+    let mut end = at;
+    let mut i = 0;
+    while i < many {
+        let symbol = nth(i, letters);
+        end = unless(out, end, from, to, left_out, symbol);
+        i += 1;
+    }
+    end
+}
+
+// The row of a test of the counter.
+fn counter_row(out: &mut [u8], at: usize, from: usize, to: usize, is: bool) -> usize
+    requires { ⌜ Room (now out) at (λ _. counterRows is from to) × (from ≤ 128) × (to ≤ 128) ⌝ }
+    ensures { λ r. ⌜ Writes (now (out .entry)) (now (out .exit)) at r (λ _. counterRows is from to) ⌝ }
+{
+    if is {
+        write::test_row(out, at, from, 18, 0, to)
+    } else {
+        write::test_row(out, at, from, 18, 1, to)
+    }
+}
+
+// The rows of a test of what is read.
+fn read_rows(out: &mut [u8], at: usize, from: usize, to: usize, code: u8, is: bool) -> usize
+    requires { ⌜ Room (now out) at (λ alphabet. readRows alphabet is code from to) × (from ≤ 128) × (to ≤ 128) ⌝ }
+    ensures { λ r. ⌜ Writes (now (out .entry)) (now (out .exit)) at r (λ alphabet. readRows alphabet is code from to) ⌝ }
+{
+    if is {
+        write::test_row(out, at, from, code, 2, to)
+    } else {
+        others(out, at, from, to, code)
+    }
+}
+
+// Whether the comparison that stands here is walked as `==`.
+fn walked_as_is(text: &[u8], at: usize, sign: bool) -> bool
+    ensures { λ r. ⌜ Compares (now (text .entry)) at sign r ⌝ }
+{
+    let t = see(text, at);
+    let relation = t.sign;
+    if let Sign::Equals = relation {
+        sign
+    } else {
+        !sign
+    }
+}
+
+fn atom(text: &[u8], out: &mut [u8], place: Place, to: usize, sign: bool) -> Place
+    requires { ⌜ Ready (AtomTask to sign) (now text) (now out) place ⌝ }
+    ensures { λ r. ⌜ Emits (AtomTask to sign) (now (text .entry)) (now (out .entry)) (now (out .exit)) place r ⌝ }
+{
+    let t = see(text, place.at);
+    let is = walked_as_is(text, t.end, sign);
+    let end = past(text, t.end, 2);
+    let word = t.word;
+    if let Word::C = word {
+        let row = counter_row(out, place.row, place.state, to, is);
+        return Place {
+            at: end,
+            state: place.state,
+            next: place.next,
+            row,
+        };
+    }
+    let code = symbol(text, out, past(text, t.end, 1));
+    let row = read_rows(out, place.row, place.state, to, code, is);
+    Place {
+        at: end,
+        state: place.state,
+        next: place.next,
+        row,
+    }
+}
+
+// What binds tightest: an atom, a negation, a condition in parentheses.
+fn operand(text: &[u8], out: &mut [u8], place: Place, to: usize, sign: bool) -> Place
+    requires { ⌜ Ready (WalkTask tightest to sign) (now text) (now out) place ⌝ }
+    ensures { λ r. ⌜ Emits (WalkTask tightest to sign) (now (text .entry)) (now (out .entry)) (now (out .exit)) place r ⌝ }
+{
+    let t = see(text, place.at);
+    let behind = Place {
+        at: t.end,
+        state: place.state,
+        next: place.next,
+        row: place.row,
+    };
+    let first = t.sign;
+    match first {
+        Sign::Not => operand(text, out, behind, to, !sign),
+        Sign::OpenParen => {
+            let inner = chain(text, out, behind, to, sign, true);
+            Place {
+                at: past(text, inner.at, 1),
+                state: inner.state,
+                next: inner.next,
+                row: inner.row,
+            }
+        }
+        _ => atom(text, out, place, to, sign),
+    }
+}
+
+// What an operator joins: of `||` what `&&` joins, of `&&` what binds tightest.
+fn side(text: &[u8], out: &mut [u8], place: Place, to: usize, sign: bool, or: bool) -> Place
+    requires { ⌜ Ready (WalkTask (joined or) to sign) (now text) (now out) place ⌝ }
+    ensures { λ r. ⌜ Emits (WalkTask (joined or) to sign) (now (text .entry)) (now (out .entry)) (now (out .exit)) place r ⌝ }
+{
+    if or {
+        chain(text, out, place, to, sign, false)
+    } else {
+        operand(text, out, place, to, sign)
+    }
+}
+
+// Whether an operator takes a state: `&&` where the condition is to hold, `||` where it is to fail.
+fn takes_state(sign: bool, or: bool) -> bool
+    ensures { λ r. ⌜ r ≡ takes or sign ⌝ }
+{
+    if or { !sign } else { sign }
+}
+
+// Where what stands before an operator is walked to, where what stands behind it is walked from, and the next state to be
+// taken.
+struct Course {
+    to: usize,
+    from: usize,
+    next: usize,
+}
+
+fn way(place: Place, to: usize, taking: bool) -> Course
+    requires { ⌜ place .next ≤ 128 ⌝ }
+    ensures { λ r. ⌜ Goes taking to place r ⌝ }
+{
+    if taking {
+        Course {
+            to: place.next,
+            from: place.next,
+            next: place.next + 1,
+        }
+    } else {
+        Course {
+            to,
+            from: place.state,
+            next: place.next,
+        }
+    }
+}
+
+// What `||` joins, or, if `or` is false, what `&&` joins. Both group to the right.
+fn chain(text: &[u8], out: &mut [u8], place: Place, to: usize, sign: bool, or: bool) -> Place
+    requires { ⌜ Ready (WalkTask (joins or) to sign) (now text) (now out) place ⌝ }
+    ensures { λ r. ⌜ Emits (WalkTask (joins or) to sign) (now (text .entry)) (now (out .entry)) (now (out .exit)) place r ⌝ }
+{
+    if operator_ahead(text, place.at, or) {
+        let w = way(place, to, takes_state(sign, or));
+        let start = Place {
+            at: place.at,
+            state: place.state,
+            next: w.next,
+            row: place.row,
+        };
+        let first = side(text, out, start, w.to, sign, or);
+        let behind = Place {
+            at: past(text, first.at, 1),
+            state: w.from,
+            next: first.next,
+            row: first.row,
+        };
+        let last = chain(text, out, behind, to, sign, or);
+        Place {
+            at: last.at,
+            state: place.state,
+            next: last.next,
+            row: last.row,
+        }
+    } else {
+        side(text, out, place, to, sign, or)
+    }
+}
+
+// A condition in its own parentheses: its rows from the place's state to `yes`, and those of its negation to `no`.
+pub fn tested(text: &[u8], out: &mut [u8], place: Place, yes: usize, no: usize) -> Place
+    requires { ⌜ Ready (TestTask yes no) (now text) (now out) place ⌝ }
+    ensures { λ r. ⌜ Emits (TestTask yes no) (now (text .entry)) (now (out .entry)) (now (out .exit)) place r ⌝ }
+{
+    let inside = past(text, place.at, 1);
+    let start = Place {
+        at: inside,
+        state: place.state,
+        next: place.next,
+        row: place.row,
+    };
+    let holding = chain(text, out, start, yes, true, true);
+    let again = Place {
+        at: inside,
+        state: holding.state,
+        next: holding.next,
+        row: holding.row,
+    };
+    let failing = chain(text, out, again, no, false, true);
+    Place {
+        at: past(text, failing.at, 1),
+        state: failing.state,
+        next: failing.next,
+        row: failing.row,
+    }
+}
