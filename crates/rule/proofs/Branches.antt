@@ -52,6 +52,7 @@ module _ {text : List ℕ} {from p q : ℕ} (d n : ℕ) {a : List ℕ} {c : Coun
           (sym e)
           (ap (orAlso d) s ∙ sym (more-arms d (n + 1) (omega arith)))
           h
+
       go : Dec (n ≡ 1) → Comes text (spot from (behindArms d n ∷ []) (totals a c)) (spot q (block d ∷ behindArms d (n + 1) ∷ []) (totals a l))
       go (yes e) = finish (arms d 1) 2 (one-arm d n e) (omega arith) (moves f refl refl (counts-plus a more))
       go (no h) = finish (orAlso d n) (suc n) (more-arms d n h) (omega arith) (moves f refl (lt-leb 8 n few) (counts-plus a more))
@@ -89,6 +90,7 @@ last-arm {text} {from} {q} {d} {n} {a} {t} {c} {arm} {r} h e f same no-also none
         (sym s)
         (sym v)
         g
+
     go : Dec (n ≡ 1) → Answers text (spot from (block d ∷ behindArms d n ∷ []) t) (statements d ∷ []) a r
     go (yes one) =
         finish

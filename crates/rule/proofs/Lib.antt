@@ -27,3 +27,4 @@ pub mod Peek
 pub mod Branches
 pub mod Listed
 pub mod Whole
+pub mod Promise

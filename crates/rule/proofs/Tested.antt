@@ -297,7 +297,7 @@ module _ {text : List ℕ} {from n : ℕ} {a : List ℕ} {r : AtomRead} {counts 
   atom-answers {atom} {to} {l} {rows} e ready few rows-are more =
       let i = subst (λ (u : AtomRead). Tests text from a (λ ts. ts) (operand n) u) e h .right in
       let same : counted 0 (rowsOf (length a) (atomOf (i .tree))) (totals a counts) ≡ totals a l =
-          ap (λ (k : ℕ). counted 0 k (totals a counts)) (sym (rows-are ∙ ap (rowsOf (length a)) (i .is))) ∙ counts-plus a more
+      ap (λ (k : ℕ). counted 0 k (totals a counts)) (sym (rows-are ∙ ap (rowsOf (length a)) (i .is))) ∙ counts-plus a more
       in
       let most = rows-most (length a) atom in
       record {

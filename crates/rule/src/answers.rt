@@ -6,7 +6,6 @@ ghost use Rattle.text.specs.Token as Spelt;
 ghost use Rattle.rule.specs.Inside.Class.{Mark, spell};
 ghost use Rattle.rule.specs.Inside.Machine.{exact};
 ghost use Rattle.rule.specs.Inside.Answers.{refusalOf, totals, spot, Ready, Answers};
-
 use text::Token;
 use text::token_at;
 
@@ -43,12 +42,42 @@ pub fn refuse(token: Token) -> Refusal
     ensures { λ r. ⌜ r ≡ refusalOf token ⌝ }
 {
     match token {
-        Token::Word { at, end: _, word: _ } => Refusal { number: 4, place: at },
-        Token::Number { at, end: _ } => Refusal { number: 4, place: at },
-        Token::Letter { at, end: _, byte: _ } => Refusal { number: 4, place: at },
-        Token::Sign { at, end: _, sign: _ } => Refusal { number: 4, place: at },
-        Token::End { at } => Refusal { number: 4, place: at },
-        Token::Broken { at } => Refusal { number: 3, place: at },
+        Token::Word {
+            at,
+            end: _,
+            word: _,
+        } => Refusal {
+            number: 4,
+            place: at,
+        },
+        Token::Number { at, end: _ } => Refusal {
+            number: 4,
+            place: at,
+        },
+        Token::Letter {
+            at,
+            end: _,
+            byte: _,
+        } => Refusal {
+            number: 4,
+            place: at,
+        },
+        Token::Sign {
+            at,
+            end: _,
+            sign: _,
+        } => Refusal {
+            number: 4,
+            place: at,
+        },
+        Token::End { at } => Refusal {
+            number: 4,
+            place: at,
+        },
+        Token::Broken { at } => Refusal {
+            number: 3,
+            place: at,
+        },
     }
 }
 
@@ -58,7 +87,12 @@ pub fn sign_at(text: &[u8], at: usize, counts: Counts, wanted: u8) -> Read
     ensures { λ r. ⌜ ((m : Mark) (a : List ℕ) → spell m ≡ Spelt.sign (wanted ∷ []) → Answers (now (text .entry)) (spot at (exact m ∷ []) (totals a counts)) [] a r) ⌝ }
 {
     let token = token_at(text, at);
-    let Token::Sign { at: place, end, sign: _ } = token else {
+    let Token::Sign {
+        at: place,
+        end,
+        sign: _,
+    } = token
+    else {
         return Read::Refused(refuse(token));
     };
     if end - place != 1 {

@@ -37,7 +37,10 @@ pub fn rows_of(atom: Atom, letters: usize) -> usize
     ensures { λ r. ⌜ r ≡ rowsOf letters atom ⌝ }
 {
     match atom {
-        Atom::Read { equal: _, symbol: _ } => letters + 2,
+        Atom::Read {
+            equal: _,
+            symbol: _,
+        } => letters + 2,
         Atom::Counter { zero: _ } => 2,
     }
 }
@@ -80,7 +83,11 @@ fn symbol_at(text: &[u8], at: usize, letters: Letters, equal: bool) -> AtomRead
 {
     let token = token_at(text, at);
     match token {
-        Token::Letter { at: place, end, byte } => {
+        Token::Letter {
+            at: place,
+            end,
+            byte,
+        } => {
             if letters.has(byte) {
                 AtomRead::Found {
                     atom: Atom::Read {

@@ -38,7 +38,12 @@ pub fn operand_at(text: &[u8], at: usize, counts: Counts, letters: Letters, left
     ensures { λ r. ⌜ Answers (now (text .entry)) (spot at (operand (16 - left) ∷ []) (totals (alphabetOf letters) counts)) [] (alphabetOf letters) r ⌝ }
 {
     let token = token_at(text, at);
-    let Token::Sign { at: place, end, sign } = token else {
+    let Token::Sign {
+        at: place,
+        end,
+        sign,
+    } = token
+    else {
         return counted_atom_at(text, at, counts, letters);
     };
     match sign {
@@ -68,7 +73,11 @@ pub fn condition_at(text: &[u8], at: usize, counts: Counts, letters: Letters, le
     let mut so_far = counts;
     loop {
         let read = operand_at(text, from, so_far, letters, left);
-        let Read::Went { at: next, counts: counted } = read else {
+        let Read::Went {
+            at: next,
+            counts: counted,
+        } = read
+        else {
             return read;
         };
         let token = token_at(text, next);

@@ -21,7 +21,11 @@ fn close_at(text: &[u8], at: usize, counts: Counts) -> Read
     ensures { λ r. ⌜ ((a : List ℕ) → Answers (now (text .entry)) (spot at (exact Mark.closes ∷ exact Mark.semicolon ∷ []) (totals a counts)) [] a r) ⌝ }
 {
     let read = sign_at(text, at, counts, b')');
-    let Read::Went { at: next, counts: counted } = read else {
+    let Read::Went {
+        at: next,
+        counts: counted,
+    } = read
+    else {
         return read;
     };
     sign_at(text, next, counted, b';')
@@ -33,7 +37,11 @@ fn cells_at(text: &[u8], at: usize, counts: Counts) -> Read
     ensures { λ r. ⌜ ((a : List ℕ) → Answers (now (text .entry)) (spot at (number 63 ∷ exact Mark.closes ∷ exact Mark.semicolon ∷ []) (totals a counts)) [] a r) ⌝ }
 {
     let read = number_at(text, at, counts, 63);
-    let Read::Went { at: next, counts: counted } = read else {
+    let Read::Went {
+        at: next,
+        counts: counted,
+    } = read
+    else {
         return read;
     };
     close_at(text, next, counted)
@@ -60,7 +68,11 @@ pub fn move_at(text: &[u8], at: usize, counts: Counts) -> Read
     ensures { λ r. ⌜ ((a : List ℕ) → Answers (now (text .entry)) (spot at (exact Mark.opens ∷ distance ∷ []) (totals a counts)) [] a r) ⌝ }
 {
     let read = sign_at(text, at, counts, b'(');
-    let Read::Went { at: next, counts: counted } = read else {
+    let Read::Went {
+        at: next,
+        counts: counted,
+    } = read
+    else {
         return read;
     };
     distance_at(text, next, counted)
@@ -72,7 +84,11 @@ pub fn goto_at(text: &[u8], at: usize, counts: Counts) -> Read
     ensures { λ r. ⌜ ((a : List ℕ) → Answers (now (text .entry)) (spot at (exact Mark.opens ∷ end ∷ []) (totals a counts)) [] a r) ⌝ }
 {
     let read = sign_at(text, at, counts, b'(');
-    let Read::Went { at: next, counts: counted } = read else {
+    let Read::Went {
+        at: next,
+        counts: counted,
+    } = read
+    else {
         return read;
     };
     let token = token_at(text, next);
@@ -92,7 +108,11 @@ fn amount_at(text: &[u8], at: usize, counts: Counts) -> Read
     ensures { λ r. ⌜ ((a : List ℕ) → Answers (now (text .entry)) (spot at (number 31 ∷ exact Mark.semicolon ∷ []) (totals a counts)) [] a r) ⌝ }
 {
     let read = number_at(text, at, counts, 31);
-    let Read::Went { at: next, counts: counted } = read else {
+    let Read::Went {
+        at: next,
+        counts: counted,
+    } = read
+    else {
         return read;
     };
     sign_at(text, next, counted, b';')

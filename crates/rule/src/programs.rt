@@ -44,7 +44,11 @@ fn head_at(text: &[u8], at: usize, counts: Counts) -> Read
         return Read::Refused(refuse(token));
     };
     let read = sign_at(text, end, counts, b'(');
-    let Read::Went { at: next, counts: same } = read else {
+    let Read::Went {
+        at: next,
+        counts: same,
+    } = read
+    else {
         return read;
     };
     string_at(text, next, same)
@@ -61,11 +65,19 @@ pub fn program_of(text: &[u8]) -> Read
         return read;
     };
     let head = head_at(text, at, counts);
-    let Read::Went { at: opens, counts: same } = head else {
+    let Read::Went {
+        at: opens,
+        counts: same,
+    } = head
+    else {
         return head;
     };
     let body = block_at(text, opens, same, letters, 16);
-    let Read::Went { at: next, counts: counted } = body else {
+    let Read::Went {
+        at: next,
+        counts: counted,
+    } = body
+    else {
         return body;
     };
     let token = token_at(text, next);

@@ -42,29 +42,57 @@ fn letters_at(text: &[u8], at: usize, counts: Counts) -> Settings
     let mut letters = Letters::none();
     loop {
         let token = token_at(text, from);
-        let Token::Letter { at: place, end, byte } = token else {
-            return Settings { read: Read::Refused(refuse(token)), letters };
+        let Token::Letter {
+            at: place,
+            end,
+            byte,
+        } = token
+        else {
+            return Settings {
+                read: Read::Refused(refuse(token)),
+                letters,
+            };
         };
         if letters.has(byte) {
-            return Settings { read: Read::Refused(Refusal { number: 5, place }), letters };
+            return Settings {
+                read: Read::Refused(Refusal { number: 5, place }),
+                letters,
+            };
         }
         if letters.count == 16 {
-            return Settings { read: Read::Refused(Refusal { number: 5, place }), letters };
+            return Settings {
+                read: Read::Refused(Refusal { number: 5, place }),
+                letters,
+            };
         }
         letters = letters.with(byte);
         let next = token_at(text, end);
-        let Token::Sign { at: _, end: after, sign } = next else {
-            return Settings { read: Read::Refused(refuse(next)), letters };
+        let Token::Sign {
+            at: _,
+            end: after,
+            sign,
+        } = next
+        else {
+            return Settings {
+                read: Read::Refused(refuse(next)),
+                letters,
+            };
         };
         match sign {
             Sign::CloseBracket => {
-                return Settings { read: Read::Went { at: after, counts }, letters };
+                return Settings {
+                    read: Read::Went { at: after, counts },
+                    letters,
+                };
             }
             Sign::Comma => {
                 from = after;
             }
             _ => {
-                return Settings { read: Read::Refused(refuse(next)), letters };
+                return Settings {
+                    read: Read::Refused(refuse(next)),
+                    letters,
+                };
             }
         }
     }
@@ -76,20 +104,35 @@ fn alphabet_at(text: &[u8], at: usize, counts: Counts) -> Settings
     ensures { λ r. ⌜ AnswersWith (now (text .entry)) (spot at (exact Mark.equals ∷ exact Mark.openList ∷ letters ∷ exact Mark.semicolon ∷ []) (totals [] counts)) [] r ⌝ }
 {
     let read = sign_at(text, at, counts, b'=');
-    let Read::Went { at: opens, counts: same } = read else {
+    let Read::Went {
+        at: opens,
+        counts: same,
+    } = read
+    else {
         return no_letters(read);
     };
     let opened = sign_at(text, opens, same, b'[');
-    let Read::Went { at: inside, counts: still } = opened else {
+    let Read::Went {
+        at: inside,
+        counts: still,
+    } = opened
+    else {
         return no_letters(opened);
     };
     let listed = letters_at(text, inside, still);
     let list = listed.read;
     let letters = listed.letters;
-    let Read::Went { at: next, counts: counted } = list else {
+    let Read::Went {
+        at: next,
+        counts: counted,
+    } = list
+    else {
         return listed;
     };
-    Settings { read: sign_at(text, next, counted, b';'), letters }
+    Settings {
+        read: sign_at(text, next, counted, b';'),
+        letters,
+    }
 }
 
 // Behind `decr_on_zero`.
@@ -98,7 +141,11 @@ fn truth_at(text: &[u8], at: usize, counts: Counts) -> Read
     ensures { λ r. ⌜ ((a : List ℕ) → Answers (now (text .entry)) (spot at (exact Mark.equals ∷ truth ∷ []) (totals a counts)) [] a r) ⌝ }
 {
     let read = sign_at(text, at, counts, b'=');
-    let Read::Went { at: next, counts: same } = read else {
+    let Read::Went {
+        at: next,
+        counts: same,
+    } = read
+    else {
         return read;
     };
     let token = token_at(text, next);
@@ -120,17 +167,30 @@ fn alphabet_first_at(text: &[u8], at: usize, counts: Counts) -> Settings
     let first = alphabet_at(text, at, counts);
     let read = first.read;
     let letters = first.letters;
-    let Read::Went { at: next, counts: same } = read else {
+    let Read::Went {
+        at: next,
+        counts: same,
+    } = read
+    else {
         return first;
     };
     let token = token_at(text, next);
     let Token::Word { at: _, end, word } = token else {
-        return Settings { read: Read::Refused(refuse(token)), letters };
+        return Settings {
+            read: Read::Refused(refuse(token)),
+            letters,
+        };
     };
     let Word::DecrOnZero = word else {
-        return Settings { read: Read::Refused(refuse(token)), letters };
+        return Settings {
+            read: Read::Refused(refuse(token)),
+            letters,
+        };
     };
-    Settings { read: truth_at(text, end, same), letters }
+    Settings {
+        read: truth_at(text, end, same),
+        letters,
+    }
 }
 
 // Behind `decr_on_zero`, where that comes first.
@@ -139,7 +199,11 @@ fn decrement_first_at(text: &[u8], at: usize, counts: Counts) -> Settings
     ensures { λ r. ⌜ AnswersWith (now (text .entry)) (spot at (exact Mark.equals ∷ truth ∷ alphabet ∷ []) (totals [] counts)) [] r ⌝ }
 {
     let read = truth_at(text, at, counts);
-    let Read::Went { at: next, counts: same } = read else {
+    let Read::Went {
+        at: next,
+        counts: same,
+    } = read
+    else {
         return no_letters(read);
     };
     let token = token_at(text, next);

@@ -27,7 +27,12 @@ pub fn block_at(text: &[u8], at: usize, counts: Counts, letters: Letters, left: 
     ensures { λ r. ⌜ Answers (now (text .entry)) (spot at (block (16 - left) ∷ []) (totals (alphabetOf letters) counts)) [] (alphabetOf letters) r ⌝ }
 {
     let token = token_at(text, at);
-    let Token::Sign { at: place, end, sign } = token else {
+    let Token::Sign {
+        at: place,
+        end,
+        sign,
+    } = token
+    else {
         return Read::Refused(refuse(token));
     };
     let Sign::OpenBrace = sign else {
@@ -59,7 +64,11 @@ fn statements_at(text: &[u8], at: usize, counts: Counts, letters: Letters, left:
             };
         }
         let read = statement_at(text, from, so_far, letters, left);
-        let Read::Went { at: next, counts: counted } = read else {
+        let Read::Went {
+            at: next,
+            counts: counted,
+        } = read
+        else {
             return read;
         };
         from = next;
@@ -97,7 +106,11 @@ fn guarded_at(text: &[u8], at: usize, counts: Counts, letters: Letters, left: us
     ensures { λ r. ⌜ Answers (now (text .entry)) (spot at (operand 0 ∷ tail 0 ∷ block (16 - left) ∷ []) (totals (alphabetOf letters) counts)) [] (alphabetOf letters) r ⌝ }
 {
     let read = condition_at(text, at, counts, letters, 16);
-    let Read::Went { at: next, counts: counted } = read else {
+    let Read::Went {
+        at: next,
+        counts: counted,
+    } = read
+    else {
         return read;
     };
     block_at(text, next, counted, letters, left)
@@ -110,11 +123,19 @@ fn if_at(text: &[u8], at: usize, counts: Counts, letters: Letters, left: usize) 
     ensures { λ r. ⌜ Answers (now (text .entry)) (spot at (exact Mark.opens ∷ operand 0 ∷ tail 0 ∷ block (16 - left) ∷ orElse (16 - left) ∷ []) (totals (alphabetOf letters) counts)) (statements (16 - left) ∷ []) (alphabetOf letters) r ⌝ }
 {
     let read = sign_at(text, at, counts, b'(');
-    let Read::Went { at: inside, counts: same } = read else {
+    let Read::Went {
+        at: inside,
+        counts: same,
+    } = read
+    else {
         return read;
     };
     let guarded = guarded_at(text, inside, same, letters, left);
-    let Read::Went { at: next, counts: counted } = guarded else {
+    let Read::Went {
+        at: next,
+        counts: counted,
+    } = guarded
+    else {
         return guarded;
     };
     let token = token_at(text, next);
@@ -162,11 +183,20 @@ fn branch_at(text: &[u8], at: usize, counts: Counts, letters: Letters, left: usi
     let mut arms_read: usize = 1;
     loop {
         let arm = block_at(text, from, so_far, letters, left);
-        let Read::Went { at: next, counts: counted } = arm else {
+        let Read::Went {
+            at: next,
+            counts: counted,
+        } = arm
+        else {
             return arm;
         };
         let token = token_at(text, next);
-        let Token::Word { at: place, end, word } = token else {
+        let Token::Word {
+            at: place,
+            end,
+            word,
+        } = token
+        else {
             return last_arm(token, arm, arms_read);
         };
         let Word::Also = word else {

@@ -35,7 +35,7 @@ refuse-requires-2 : tie.Need-refuse-requires-2
 refuse-requires-2 c κs = search needs
 
 returns-2 : tie.Need-returns-2
-returns-2 c = 
+returns-2 c =
     λ n.
     test-on
     (told-word (c .before .before .before .before .before .before .token-at .ensures) (c .before .before .before .before .token .given .1) (c .before .enum-told .given .1))
@@ -47,7 +47,7 @@ returns-2 c =
     (c .read-test-at .ensures (c .before .before .before .before .token .given .0 .0))
 
 returns-3 : tie.Need-returns-3
-returns-3 c = 
+returns-3 c =
     λ n.
     test-on
     (told-word (c .before .before .before .before .before .before .token-at .ensures) (c .before .before .before .before .token .given .1) (c .before .enum-told2 .given .1))
@@ -59,7 +59,7 @@ returns-3 c =
     (c .counter-test-at .ensures (alphabetOf (c .before .before .before .before .before .before .before .before .args .letters)) (c .before .before .before .before .token .given .0 .0))
 
 returns-4 : tie.Need-returns-4
-returns-4 c = 
+returns-4 c =
     λ n. test-refuses-word (c .before .before .before .before .before .token-at .ensures) (c .before .before .before .token .given .1) (λ t. c .before .match2 .keys3) (c .refuse2 .ensures)
 
 pub atom-at-spec : {M : Type 1} → statement M

@@ -34,7 +34,7 @@ refuse-requires-2 : tie.Need-refuse-requires-2
 refuse-requires-2 c κs = search needs
 
 returns-2 : tie.Need-returns-2
-returns-2 c = 
+returns-2 c =
     λ a p.
     test-on
     (told-sign (c .before .before .before .before .before .before .token-at .ensures) (c .before .before .before .before .token .given .1) (c .before .enum-told .given .1))
@@ -46,7 +46,7 @@ returns-2 c =
     (c .zero-at .ensures a p (c .before .before .before .before .token .given .0 .0))
 
 returns-3 : tie.Need-returns-3
-returns-3 c = 
+returns-3 c =
     λ a p.
     test-on
     (told-sign (c .before .before .before .before .before .before .token-at .ensures) (c .before .before .before .before .token .given .1) (c .before .enum-told2 .given .1))
@@ -58,7 +58,7 @@ returns-3 c =
     (c .zero-at2 .ensures a p (c .before .before .before .before .token .given .0 .0))
 
 returns-4 : tie.Need-returns-4
-returns-4 c = 
+returns-4 c =
     λ a p. test-refuses-sign (c .before .before .before .before .before .token-at .ensures) (c .before .before .before .token .given .1) (λ t. c .before .match2 .keys3) (c .refuse2 .ensures)
 
 pub counter-test-at-spec : {M : Type 1} → statement M

@@ -34,7 +34,7 @@ refuse-requires-2 : tie.Need-refuse-requires-2
 refuse-requires-2 c κs = search needs
 
 returns : tie.Need-returns
-returns c = 
+returns c =
     λ p q.
     letter-found
     (c .before .before .before .before .before .before .before .args .equal)
@@ -44,13 +44,13 @@ returns c =
     (sym (c .before .has .ensures) ∙ c .if1 .taken)
 
 returns-2 : tie.Need-returns-2
-returns-2 c = 
+returns-2 c =
     λ p q.
     letter-outside (front-letter (c .before .before .before .before .before .token-at .ensures) (c .before .before .before .token .given .1)) (sym (c .before .has .ensures) ∙ c .if1 .left)
 
 returns-3 : tie.Need-returns-3
 unfolding soughtFaults
-returns-3 c = 
+returns-3 c =
     λ p q.
     sought-found
     (c .before .before .before .before .before .before .before .args .equal)
@@ -63,7 +63,7 @@ returns-3 c =
 
 returns-4 : tie.Need-returns-4
 unfolding soughtFaults
-returns-4 c = 
+returns-4 c =
     λ p q.
     sought-found
     (c .before .before .before .before .before .before .before .args .equal)
@@ -75,12 +75,12 @@ returns-4 c =
     refl
 
 returns-5 : tie.Need-returns-5
-returns-5 c = 
+returns-5 c =
     λ p q.
     test-refuses-word (c .before .before .before .before .before .token-at .ensures) (c .before .before .before .token2 .given .1) (λ t. c .before .match2 .keys3) (c .refuse .ensures)
 
 returns-6 : tie.Need-returns-6
-returns-6 c = 
+returns-6 c =
     λ p q. test-refuses (c .before .before .token-at .ensures) (λ t. c .before .match .keys3) (c .refuse2 .ensures)
 
 pub symbol-at-spec : {M : Type 1} → statement M

@@ -54,20 +54,19 @@ operand-at-below t =
     and 1 operand-at-kinds.ps (falls 1 operand-at-kinds.ps _<_ μ-operand-at t) operand-at.Pre
 
 abbrev condition-at-claims : ℕ → condition-at-lts.Claims
-condition-at-claims t =
-    (
-      operand-at-below t,
-      operand-at.Post,
-      token-at-reads.Asked,
-      token-at-reads.Learnt,
-      refuse-reads.Asked,
-      refuse-reads.Learnt,
-      plus-reads.Asked,
-      plus-reads.Learnt,
-    )
+condition-at-claims t = (
+  operand-at-below t,
+  operand-at.Post,
+  token-at-reads.Asked,
+  token-at-reads.Learnt,
+  refuse-reads.Asked,
+  refuse-reads.Learnt,
+  plus-reads.Asked,
+  plus-reads.Learnt,
+)
 
 abbrev condition-at-Inv-loop : condition-at-lts.InvT-loop
-condition-at-Inv-loop text at letters left from₀ so-far₀ from so-far = 
+condition-at-Inv-loop text at letters left from₀ so-far₀ from so-far =
     Comes
     text
     (spot from₀ (operand (16 - left) ∷ tail (16 - left) ∷ []) (totals (alphabetOf letters) so-far₀))
@@ -81,7 +80,7 @@ condition-at-loop-holds : (t : ℕ) → condition-at-lts.Need-loop-holds (condit
 condition-at-loop-holds t c = (stand _, c .before .pre .1 .0)
 
 condition-at-operand-at-requires : (t : ℕ) → condition-at-lts.Need-operand-at-requires (condition-at-claims t) (condition-at-at t) condition-at.Post condition-at-Inv-loop condition-at-μ-loop
-condition-at-operand-at-requires t c κs = 
+condition-at-operand-at-requires t c κs =
     let start = c .before .before in
     let forth = c .loop .inv .0 .forth in
     (omega (arith, start .pre .0), (c .loop .inv .1, start .pre .1 .1))
@@ -105,7 +104,7 @@ condition-at-refuse-requires : (t : ℕ) → condition-at-lts.Need-refuse-requir
 condition-at-refuse-requires t c κs = search needs
 
 condition-at-returns-2 : (t : ℕ) → condition-at-lts.Need-returns-2 (condition-at-claims t) (condition-at-at t) condition-at.Post condition-at-Inv-loop condition-at-μ-loop
-condition-at-returns-2 t c = 
+condition-at-returns-2 t c =
     onward
     (c .before .before .before .before .before .before .before .loop .inv .0)
     (then _ (c .before .before .before .before .before .before .operand-at .ensures) (c .before .before .before .before .read .given .1) (refuses (c .before .before .token-at .ensures) (c .before .match2 .keys2) (c .refuse .ensures)))
@@ -114,7 +113,7 @@ condition-at-enum-told-2 : (t : ℕ) → condition-at-lts.Need-enum-told-2 (cond
 condition-at-enum-told-2 t c = search needs
 
 condition-at-returns-3 : (t : ℕ) → condition-at-lts.Need-returns-3 (condition-at-claims t) (condition-at-at t) condition-at.Post condition-at-Inv-loop condition-at-μ-loop
-condition-at-returns-3 t c = 
+condition-at-returns-3 t c =
     let read = c .before .before .before .before .before .before .before .before .before .operand-at .ensures in
     let went = c .before .before .before .before .before .before .before .read .given .1 in
     let f = told-sign (c .before .before .before .before .before .token-at .ensures) (c .before .before .before .token .given .1) (c .enum-told2 .given .1) in
@@ -124,13 +123,13 @@ condition-at-plus-requires : (t : ℕ) → condition-at-lts.Need-plus-requires (
 condition-at-plus-requires t c κs = omega (arith, went-ready (c .before .before .before .before .before .before .before .before .operand-at .ensures) (c .before .before .before .before .before .before .read .given .1))
 
 condition-at-loop-less : (t : ℕ) → condition-at-lts.Need-loop-less (condition-at-claims t) (condition-at-at t) condition-at.Post condition-at-Inv-loop condition-at-μ-loop
-condition-at-loop-less t c = 
+condition-at-loop-less t c =
     let f = front-sign (c .before .before .before .before .before .token-at .ensures) (c .before .before .before .token .given .1) in
     let forth = went-forth (c .before .before .before .before .before .before .before .before .before .operand-at .ensures) (c .before .before .before .before .before .before .before .read .given .1) in
     omega (arith, f .back, f .some, f .within)
 
 condition-at-loop-again : (t : ℕ) → condition-at-lts.Need-loop-again (condition-at-claims t) (condition-at-at t) condition-at.Post condition-at-Inv-loop condition-at-μ-loop
-condition-at-loop-again t c = 
+condition-at-loop-again t c =
     let read = c .before .before .before .before .before .before .before .before .before .operand-at .ensures in
     let went-on = c .before .before .before .before .before .before .before .read .given .1 in
     let first = c .before .before .before .before .before .token-at .ensures in
@@ -141,7 +140,7 @@ condition-at-refuse-requires-2 : (t : ℕ) → condition-at-lts.Need-refuse-requ
 condition-at-refuse-requires-2 t c κs = search needs
 
 condition-at-returns-4 : (t : ℕ) → condition-at-lts.Need-returns-4 (condition-at-claims t) (condition-at-at t) condition-at.Post condition-at-Inv-loop condition-at-μ-loop
-condition-at-returns-4 t c = 
+condition-at-returns-4 t c =
     onward
     (c .before .before .before .before .before .before .before .before .before .before .loop .inv .0)
     (then
@@ -151,19 +150,18 @@ condition-at-returns-4 t c =
     (refuses-sign (c .before .before .before .before .before .token-at .ensures) (c .before .before .before .token .given .1) (c .before .match3 .keys3) (c .refuse2 .ensures)))
 
 abbrev operand-at-claims : ℕ → operand-at-lts.Claims
-operand-at-claims t =
-    (
-      token-at-reads.Asked,
-      token-at-reads.Learnt,
-      counted-atom-at-reads.Asked,
-      counted-atom-at-reads.Learnt,
-      condition-at-below t,
-      condition-at.Post,
-      operand-at-below t,
-      operand-at.Post,
-      refuse-reads.Asked,
-      refuse-reads.Learnt,
-    )
+operand-at-claims t = (
+  token-at-reads.Asked,
+  token-at-reads.Learnt,
+  counted-atom-at-reads.Asked,
+  counted-atom-at-reads.Learnt,
+  condition-at-below t,
+  condition-at.Post,
+  operand-at-below t,
+  operand-at.Post,
+  refuse-reads.Asked,
+  refuse-reads.Learnt,
+)
 
 operand-at-token-at-requires : (t : ℕ) → operand-at-lts.Need-token-at-requires (operand-at-claims t) (operand-at-at t) operand-at.Post
 operand-at-token-at-requires t c κs = search needs
@@ -172,7 +170,7 @@ operand-at-enum-known-token : (t : ℕ) → operand-at-lts.Need-enum-known-token
 operand-at-enum-known-token t c = search needs
 
 operand-at-counted-atom-at-requires : (t : ℕ) → operand-at-lts.Need-counted-atom-at-requires (operand-at-claims t) (operand-at-at t) operand-at.Post
-operand-at-counted-atom-at-requires t c κs = 
+operand-at-counted-atom-at-requires t c κs =
     let start = c .before .before .before in
     (start .pre .1 .0, (no-sign-first (c .before .token-at .ensures) (c .match .keys2), start .pre .1 .1 .0))
 
@@ -183,14 +181,14 @@ operand-at-enum-told : (t : ℕ) → operand-at-lts.Need-enum-told (operand-at-c
 operand-at-enum-told t c = search needs
 
 operand-at-returns-2 : (t : ℕ) → operand-at-lts.Need-returns-2 (operand-at-claims t) (operand-at-at t) operand-at.Post
-operand-at-returns-2 t c = 
+operand-at-returns-2 t c =
     break (told-sign (c .before .before .before .before .before .before .token-at .ensures) (c .before .before .before .before .token .given .1) (c .before .enum-told .given .1)) refl (none-left (c .before .before .before .before .before .before .before .before .args .left) (c .if1 .taken))
 
 operand-at-sub-condition-at : (t : ℕ) → operand-at-lts.Need-sub-condition-at (operand-at-claims t) (operand-at-at t) operand-at.Post
 operand-at-sub-condition-at t c = omega arith
 
 operand-at-condition-at-requires : (t : ℕ) → operand-at-lts.Need-condition-at-requires (operand-at-claims t) (operand-at-at t) operand-at.Post
-operand-at-condition-at-requires t c κs = 
+operand-at-condition-at-requires t c κs =
     let start = c .before .before .before .before .before .before .before .before in
     let f = front-sign (c .before .before .before .before .before .before .token-at .ensures) (c .before .before .before .before .token .given .1) in
     (omega (arith, start .pre .0, f .back, f .some, f .within), (ready-on f (start .pre .1 .0), (start .pre .1 .1 .0, omega (arith, start .pre .1 .1))))
@@ -199,14 +197,14 @@ operand-at-enum-told-2 : (t : ℕ) → operand-at-lts.Need-enum-told-2 (operand-
 operand-at-enum-told-2 t c = search needs
 
 operand-at-returns-3 : (t : ℕ) → operand-at-lts.Need-returns-3 (operand-at-claims t) (operand-at-at t) operand-at.Post
-operand-at-returns-3 t c = 
+operand-at-returns-3 t c =
     break (told-sign (c .before .before .before .before .before .before .token-at .ensures) (c .before .before .before .before .token .given .1) (c .before .enum-told2 .given .1)) refl (none-left (c .before .before .before .before .before .before .before .before .args .left) (c .if2 .taken))
 
 operand-at-sub-operand-at : (t : ℕ) → operand-at-lts.Need-sub-operand-at (operand-at-claims t) (operand-at-at t) operand-at.Post
 operand-at-sub-operand-at t c = omega arith
 
 operand-at-operand-at-requires : (t : ℕ) → operand-at-lts.Need-operand-at-requires (operand-at-claims t) (operand-at-at t) operand-at.Post
-operand-at-operand-at-requires t c κs = 
+operand-at-operand-at-requires t c κs =
     let start = c .before .before .before .before .before .before .before .before in
     let f = front-sign (c .before .before .before .before .before .before .token-at .ensures) (c .before .before .before .before .token .given .1) in
     (omega (arith, start .pre .0, f .back, f .some, f .within), (ready-on f (start .pre .1 .0), (start .pre .1 .1 .0, omega (arith, start .pre .1 .1))))
@@ -215,7 +213,7 @@ operand-at-refuse-requires : (t : ℕ) → operand-at-lts.Need-refuse-requires (
 operand-at-refuse-requires t c κs = search needs
 
 operand-at-returns-4 : (t : ℕ) → operand-at-lts.Need-returns-4 (operand-at-claims t) (operand-at-at t) operand-at.Post
-operand-at-returns-4 t c = 
+operand-at-returns-4 t c =
     let start = c .before .before .before .before .before .before .before .before .before in
     let deeper = one-deeper (start .args .left) (c .before .if1 .left) (start .pre .1 .1 .1) in
     step
@@ -226,7 +224,7 @@ operand-at-returns-4 t c =
     (rw deeper at (c .condition-at .ensures))
 
 operand-at-returns-5 : (t : ℕ) → operand-at-lts.Need-returns-5 (operand-at-claims t) (operand-at-at t) operand-at.Post
-operand-at-returns-5 t c = 
+operand-at-returns-5 t c =
     let start = c .before .before .before .before .before .before .before .before .before in
     let deeper = one-deeper (start .args .left) (c .before .if2 .left) (start .pre .1 .1 .1) in
     step

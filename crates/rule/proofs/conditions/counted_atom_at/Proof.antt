@@ -30,7 +30,7 @@ enum-known-refusal : tie.Need-enum-known-refusal
 enum-known-refusal c = search needs
 
 returns : tie.Need-returns
-returns c = 
+returns c =
     let start = c .before .before .before .before .before .before .before in
     let sized = alphabet-length (start .pre .1 .1) in
     let few : length (alphabetOf (start .args .letters)) ≤ 16 = omega (arith, start .pre .1 .1) in

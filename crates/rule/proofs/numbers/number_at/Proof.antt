@@ -22,17 +22,17 @@ returns : tie.Need-returns
 returns c = λ a. refuses (c .before .before .token-at .ensures) (c .before .match .keys2) (c .refuse .ensures)
 
 sub-out-of-range : tie.Need-sub-out-of-range
-sub-out-of-range c = 
+sub-out-of-range c =
     let f = front-number (c .before .before .before .token-at .ensures) (c .before .token .given .1) in
     omega arith
 
 part-out-of-range-start : tie.Need-part-out-of-range-start
-part-out-of-range-start c = 
+part-out-of-range-start c =
     let f = front-number (c .before .before .before .token-at .ensures) (c .before .token .given .1) in
     omega arith
 
 part-out-of-range-end : tie.Need-part-out-of-range-end
-part-out-of-range-end c = 
+part-out-of-range-end c =
     let f = front-number (c .before .before .before .token-at .ensures) (c .before .token .given .1) in
     omega arith
 
@@ -40,7 +40,7 @@ out-of-range-requires : tie.Need-out-of-range-requires
 out-of-range-requires c κs = number-digits (c .before .before .before .before .token-at .ensures) (c .before .before .token .given .1)
 
 returns-2 : tie.Need-returns-2
-returns-2 c = 
+returns-2 c =
     λ a.
     break
     (front-number (c .before .before .before .before .before .before .token-at .ensures) (c .before .before .before .before .token .given .1))
@@ -48,7 +48,7 @@ returns-2 c =
     (sym (c .before .out-of-range .ensures) ∙ c .if1 .taken)
 
 returns-3 : tie.Need-returns-3
-returns-3 c = 
+returns-3 c =
     let f = front-number (c .before .before .before .before .before .before .token-at .ensures) (c .before .before .before .before .token .given .1) in
     λ a.
     step

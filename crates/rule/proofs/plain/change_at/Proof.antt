@@ -48,7 +48,7 @@ refuse-requires-2 : tie.Need-refuse-requires-2
 refuse-requires-2 c κs = search needs
 
 returns-2 : tie.Need-returns-2
-returns-2 c = 
+returns-2 c =
     λ a.
     step
     (told-sign (c .before .before .before .before .before .before .token-at .ensures) (c .before .before .before .before .token .given .1) (c .before .enum-told .given .1))
@@ -58,7 +58,7 @@ returns-2 c =
     (c .sign-at .ensures Mark.semicolon a refl)
 
 returns-3 : tie.Need-returns-3
-returns-3 c = 
+returns-3 c =
     λ a.
     step
     (told-sign (c .before .before .before .before .before .before .token-at .ensures) (c .before .before .before .before .token .given .1) (c .before .enum-told2 .given .1))
@@ -68,7 +68,7 @@ returns-3 c =
     (c .sign-at2 .ensures Mark.semicolon a refl)
 
 returns-4 : tie.Need-returns-4
-returns-4 c = 
+returns-4 c =
     λ a.
     step
     (told-sign (c .before .before .before .before .before .before .token-at .ensures) (c .before .before .before .before .token .given .1) (c .before .enum-told3 .given .1))
@@ -78,7 +78,7 @@ returns-4 c =
     (c .amount-at .ensures a)
 
 returns-5 : tie.Need-returns-5
-returns-5 c = 
+returns-5 c =
     λ a.
     step
     (told-sign (c .before .before .before .before .before .before .token-at .ensures) (c .before .before .before .before .token .given .1) (c .before .enum-told4 .given .1))

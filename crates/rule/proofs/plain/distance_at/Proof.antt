@@ -19,7 +19,7 @@ cells-at-requires : tie.Need-cells-at-requires
 cells-at-requires c κs = search needs
 
 returns : tie.Need-returns
-returns c = 
+returns c =
     let first = c .before .before .token-at .ensures in
     λ a. onward (no-minus-here first (not-sort Mark.minus (c .before .before .token-at .result) first (c .before .match .keys2))) (c .cells-at .ensures a)
 
@@ -36,7 +36,7 @@ cells-at-requires-2 : tie.Need-cells-at-requires-2
 cells-at-requires-2 c κs = ready-on (told-sign (c .before .before .before .before .before .token-at .ensures) (c .before .before .before .token .given .1) (c .enum-told .given .1)) (c .before .before .before .before .before .before .before .pre)
 
 returns-3 : tie.Need-returns-3
-returns-3 c = 
+returns-3 c =
     λ a.
     step
     (told-sign (c .before .before .before .before .before .before .token-at .ensures) (c .before .before .before .before .token .given .1) (c .before .enum-told .given .1))

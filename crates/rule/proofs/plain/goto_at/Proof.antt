@@ -31,7 +31,7 @@ refuse-requires : tie.Need-refuse-requires
 refuse-requires c κs = search needs
 
 returns-2 : tie.Need-returns-2
-returns-2 c = 
+returns-2 c =
     λ a.
     then _ (c .before .before .before .before .before .before .sign-at .ensures Mark.opens a refl) (c .before .before .before .before .read .given .1) (refuses (c .before .before .token-at .ensures) (c .before .match2 .keys2) (c .refuse .ensures))
 
@@ -39,7 +39,7 @@ enum-told-2 : tie.Need-enum-told-2
 enum-told-2 c = search needs
 
 close-at-requires : tie.Need-close-at-requires
-close-at-requires c κs = 
+close-at-requires c κs =
     ready-on
     (told-word (c .before .before .before .before .before .token-at .ensures) (c .before .before .before .token .given .1) (c .enum-told2 .given .1))
     (went-ready (c .before .before .before .before .before .before .before .before .before .sign-at .ensures Mark.opens [] refl) (c .before .before .before .before .before .before .before .read .given .1))
@@ -48,7 +48,7 @@ enum-told-3 : tie.Need-enum-told-3
 enum-told-3 c = search needs
 
 close-at-requires-2 : tie.Need-close-at-requires-2
-close-at-requires-2 c κs = 
+close-at-requires-2 c κs =
     ready-on
     (told-word (c .before .before .before .before .before .token-at .ensures) (c .before .before .before .token .given .1) (c .enum-told3 .given .1))
     (went-ready (c .before .before .before .before .before .before .before .before .before .sign-at .ensures Mark.opens [] refl) (c .before .before .before .before .before .before .before .read .given .1))
@@ -57,7 +57,7 @@ refuse-requires-2 : tie.Need-refuse-requires-2
 refuse-requires-2 c κs = search needs
 
 returns-3 : tie.Need-returns-3
-returns-3 c = 
+returns-3 c =
     λ a.
     then
     _
@@ -66,7 +66,7 @@ returns-3 c =
     (step (told-word (c .before .before .before .before .before .before .token-at .ensures) (c .before .before .before .before .token .given .1) (c .before .enum-told2 .given .1)) refl refl refl (c .close-at .ensures a))
 
 returns-4 : tie.Need-returns-4
-returns-4 c = 
+returns-4 c =
     λ a.
     then
     _
@@ -75,7 +75,7 @@ returns-4 c =
     (step (told-word (c .before .before .before .before .before .before .token-at .ensures) (c .before .before .before .before .token .given .1) (c .before .enum-told3 .given .1)) refl refl refl (c .close-at2 .ensures a))
 
 returns-5 : tie.Need-returns-5
-returns-5 c = 
+returns-5 c =
     λ a.
     then
     _

@@ -40,7 +40,7 @@ enum-told-2 : tie.Need-enum-told-2
 enum-told-2 c = search needs
 
 returns-3 : tie.Need-returns-3
-returns-3 c = 
+returns-3 c =
     λ a.
     step
     (told-word (c .before .before .before .before .before .before .before .before .token-at .ensures) (c .before .before .before .before .before .before .token .given .1) (c .before .before .before .enum-told .given .1))
@@ -53,7 +53,7 @@ string-at-requires : tie.Need-string-at-requires
 string-at-requires c κs = went-ready (c .before .before .before .sign-at .ensures Mark.opens [] refl) (c .before .read .given .1)
 
 returns-4 : tie.Need-returns-4
-returns-4 c = 
+returns-4 c =
     λ a.
     step
     (told-word (c .before .before .before .before .before .before .before .before .before .before .token-at .ensures) (c .before .before .before .before .before .before .before .before .token .given .1) (c .before .before .before .before .before .enum-told .given .1))

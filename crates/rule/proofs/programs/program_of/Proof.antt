@@ -30,7 +30,7 @@ enum-told-2 : tie.Need-enum-told-2
 enum-told-2 c = search needs
 
 returns-2 : tie.Need-returns-2
-returns-2 c = 
+returns-2 c =
     refused-outcome
     (then _ (c .before .before .before .before .before .before .before .settings-of .ensures .answers) (c .before .before .before .before .read .given .1) (stop _ (c .before .before .head-at .ensures (alphabetOf (c .before .before .before .before .before .before .before .settings-of .result .letters))) (c .enum-told2 .given .1)))
     (c .enum-told2 .given .1)
@@ -45,7 +45,7 @@ enum-told-3 : tie.Need-enum-told-3
 enum-told-3 c = search needs
 
 returns-3 : tie.Need-returns-3
-returns-3 c = 
+returns-3 c =
     refused-outcome
     (then
     _
@@ -64,7 +64,7 @@ refuse-requires : tie.Need-refuse-requires
 refuse-requires c κs = search needs
 
 returns-4 : tie.Need-returns-4
-returns-4 c = 
+returns-4 c =
     more
     (comes-then
     (went _ (c .before .before .before .before .before .before .before .before .before .before .before .before .before .before .before .settings-of .ensures .answers) (c .before .before .before .before .before .before .before .before .before .before .before .before .read .given .1))
@@ -74,7 +74,7 @@ returns-4 c =
     (c .refuse .ensures)
 
 returns-5 : tie.Need-returns-5
-returns-5 c = 
+returns-5 c =
     whole
     (comes-then
     (went _ (c .before .before .before .before .before .before .before .before .before .before .before .before .before .before .before .settings-of .ensures .answers) (c .before .before .before .before .before .before .before .before .before .before .before .before .read .given .1))

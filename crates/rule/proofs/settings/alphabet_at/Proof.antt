@@ -49,7 +49,7 @@ enum-told-3 : tie.Need-enum-told-3
 enum-told-3 c = search needs
 
 returns-3 : tie.Need-returns-3
-returns-3 c = 
+returns-3 c =
     let listed = c .before .before .before .letters-at .ensures in
     record {
       answers =
@@ -65,7 +65,7 @@ sign-at-requires-3 : tie.Need-sign-at-requires-3
 sign-at-requires-3 c κs = went-ready (c .before .before .before .before .letters-at .ensures .answers) (c .before .list .given .1)
 
 returns-4 : tie.Need-returns-4
-returns-4 c = 
+returns-4 c =
     let listed = c .before .before .before .before .before .letters-at .ensures in
     record {
       answers =

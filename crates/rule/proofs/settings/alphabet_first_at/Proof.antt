@@ -18,7 +18,7 @@ enum-told : tie.Need-enum-told
 enum-told c = search needs
 
 returns : tie.Need-returns
-returns c = 
+returns c =
     let first = c .before .before .before .alphabet-at .ensures in
     record { answers = stop _ (first .answers) (c .enum-told .given .1); sized = first .sized }
 
@@ -32,7 +32,7 @@ refuse-requires : tie.Need-refuse-requires
 refuse-requires c κs = search needs
 
 returns-2 : tie.Need-returns-2
-returns-2 c = 
+returns-2 c =
     let first = c .before .before .before .before .before .before .before .alphabet-at .ensures in
     record { answers = then _ (first .answers) (c .before .before .before .before .read .given .1) (refuses (c .before .before .token-at .ensures) (c .before .match2 .keys2) (c .refuse .ensures)); sized = first .sized }
 
@@ -43,7 +43,7 @@ refuse-requires-2 : tie.Need-refuse-requires-2
 refuse-requires-2 c κs = search needs
 
 returns-3 : tie.Need-returns-3
-returns-3 c = 
+returns-3 c =
     let first = c .before .before .before .before .before .before .before .before .before .before .alphabet-at .ensures in
     record {
       answers = then _ (first .answers) (c .before .before .before .before .before .before .before .read .given .1) (refuses-word (c .before .before .before .before .before .token-at .ensures) (c .before .before .before .token .given .1) (c .before .match3 .keys2) (c .refuse2 .ensures));
@@ -54,7 +54,7 @@ truth-at-requires : tie.Need-truth-at-requires
 truth-at-requires c κs = ready-on (told-word (c .before .before .before .before .before .token-at .ensures) (c .before .before .before .token .given .1) (c .enum-told2 .given .1)) (went-ready (c .before .before .before .before .before .before .before .before .before .before .alphabet-at .ensures .answers) (c .before .before .before .before .before .before .before .read .given .1))
 
 returns-4 : tie.Need-returns-4
-returns-4 c = 
+returns-4 c =
     let first = c .before .before .before .before .before .before .before .before .before .before .before .alphabet-at .ensures in
     record {
       answers =

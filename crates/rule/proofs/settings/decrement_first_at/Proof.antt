@@ -49,7 +49,7 @@ no-letters-requires-3 : tie.Need-no-letters-requires-3
 no-letters-requires-3 c κs = search needs
 
 returns-3 : tie.Need-returns-3
-returns-3 c = 
+returns-3 c =
     without
     (c .no-letters3 .ensures)
     (λ b. then _ (c .before .before .before .before .before .before .before .before .before .before .truth-at .ensures []) (c .before .before .before .before .before .before .before .before .read .given .1) (refuses-word (c .before .before .before .before .before .before .token-at .ensures) (c .before .before .before .before .token .given .1) (c .before .before .match3 .keys2) (c .before .refuse2 .ensures)))
@@ -58,7 +58,7 @@ alphabet-at-requires : tie.Need-alphabet-at-requires
 alphabet-at-requires c κs = ready-on (told-word (c .before .before .before .before .before .token-at .ensures) (c .before .before .before .token .given .1) (c .enum-told2 .given .1)) (went-ready (c .before .before .before .before .before .before .before .before .before .truth-at .ensures []) (c .before .before .before .before .before .before .before .read .given .1))
 
 returns-4 : tie.Need-returns-4
-returns-4 c = 
+returns-4 c =
     let second = c .alphabet-at .ensures in
     record {
       answers =

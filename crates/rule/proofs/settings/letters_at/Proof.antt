@@ -15,7 +15,7 @@ use Rattle.rule.proofs.settings.letters_at.Statement.{statement}
 use Rattle.rule.proofs.settings.letters_at.Tie as tie
 
 abbrev Inv-loop : tie.InvT-loop
-Inv-loop text at counts from₀ letters₀ from letters = 
+Inv-loop text at counts from₀ letters₀ from letters =
     Comes
     text
     (spot from₀ (Machine.letters ∷ []) (totals [] counts))
@@ -30,7 +30,7 @@ none-requires : tie.Need-none-requires Inv-loop μ-loop
 none-requires c κs = search needs
 
 loop-holds : tie.Need-loop-holds Inv-loop μ-loop
-loop-holds c = 
+loop-holds c =
     let start = c .before .before in
     (subst (λ (a : List ℕ). Comes (start .args .text .now) (spot (start .args .at) (Machine.letters ∷ []) (totals [] (start .args .counts))) (spot (start .args .at) (Machine.letters ∷ []) (totals a (start .args .counts)))) (sym (c .none .ensures .1)) (stand _), start .pre, c .none .ensures .0)
 
@@ -44,7 +44,7 @@ refuse-requires : tie.Need-refuse-requires Inv-loop μ-loop
 refuse-requires c κs = search needs
 
 returns : tie.Need-returns Inv-loop μ-loop
-returns c = 
+returns c =
     let at-loop = c .before .before .before .loop .inv in
     record { answers = onward (at-loop .0) (refuses (c .before .before .token-at .ensures) (c .before .match .keys2) (c .refuse .ensures)); sized = at-loop .2 }
 
@@ -52,7 +52,7 @@ has-requires : tie.Need-has-requires Inv-loop μ-loop
 has-requires c κs = c .before .before .before .before .loop .inv .2
 
 returns-2 : tie.Need-returns-2 Inv-loop μ-loop
-returns-2 c = 
+returns-2 c =
     let at-loop = c .before .before .before .before .before .before .loop .inv in
     record {
       answers =
@@ -63,7 +63,7 @@ returns-2 c =
     }
 
 returns-3 : tie.Need-returns-3 Inv-loop μ-loop
-returns-3 c = 
+returns-3 c =
     let at-loop = c .before .before .before .before .before .before .before .before .loop .inv in
     record {
       answers =
@@ -86,7 +86,7 @@ refuse-requires-2 : tie.Need-refuse-requires-2 Inv-loop μ-loop
 refuse-requires-2 c κs = search needs
 
 returns-4 : tie.Need-returns-4 Inv-loop μ-loop
-returns-4 c = 
+returns-4 c =
     let at-loop = c .before .before .before .before .before .before .before .before .before .before .before .before .loop in
     record {
       answers =
@@ -105,7 +105,7 @@ enum-told : tie.Need-enum-told Inv-loop μ-loop
 enum-told c = search needs
 
 returns-5 : tie.Need-returns-5 Inv-loop μ-loop
-returns-5 c = 
+returns-5 c =
     let at-loop = c .before .before .before .before .before .before .before .before .before .before .before .before .before .before .before .loop in
     let f = front-letter (c .before .before .before .before .before .before .before .before .before .before .before .before .before .before .token-at .ensures) (c .before .before .before .before .before .before .before .before .before .before .before .before .token .given .1) in
     let g = told-sign (c .before .before .before .before .before .token-at2 .ensures) (c .before .before .before .next .given .1) (c .enum-told .given .1) in
@@ -126,13 +126,13 @@ enum-told-2 : tie.Need-enum-told-2 Inv-loop μ-loop
 enum-told-2 c = search needs
 
 loop-less : tie.Need-loop-less Inv-loop μ-loop
-loop-less c = 
+loop-less c =
     let f = front-letter (c .before .before .before .before .before .before .before .before .before .before .before .before .before .before .token-at .ensures) (c .before .before .before .before .before .before .before .before .before .before .before .before .token .given .1) in
     let g = front-sign (c .before .before .before .before .before .token-at2 .ensures) (c .before .before .before .next .given .1) in
     omega (arith, f .back, f .some, g .back, g .some, g .within)
 
 loop-again : tie.Need-loop-again Inv-loop μ-loop
-loop-again c = 
+loop-again c =
     let at-loop = c .before .before .before .before .before .before .before .before .before .before .before .before .before .before .before .loop in
     let f = front-letter (c .before .before .before .before .before .before .before .before .before .before .before .before .before .before .token-at .ensures) (c .before .before .before .before .before .before .before .before .before .before .before .before .token .given .1) in
     let g = told-sign (c .before .before .before .before .before .token-at2 .ensures) (c .before .before .before .next .given .1) (c .enum-told2 .given .1) in
@@ -149,7 +149,7 @@ refuse-requires-3 : tie.Need-refuse-requires-3 Inv-loop μ-loop
 refuse-requires-3 c κs = search needs
 
 returns-6 : tie.Need-returns-6 Inv-loop μ-loop
-returns-6 c = 
+returns-6 c =
     let at-loop = c .before .before .before .before .before .before .before .before .before .before .before .before .before .before .before .loop in
     record {
       answers =

@@ -27,7 +27,7 @@ enum-told : tie.Need-enum-told
 enum-told c = search needs
 
 alphabet-first-at-requires : tie.Need-alphabet-first-at-requires
-alphabet-first-at-requires c κs = 
+alphabet-first-at-requires c κs =
     ready-on
     (told-word (c .before .before .before .before .before .token-at .ensures) (c .before .before .before .token .given .1) (c .enum-told .given .1))
     (ready-start (c .before .before .before .before .before .before .before .pre))
@@ -36,7 +36,7 @@ enum-told-2 : tie.Need-enum-told-2
 enum-told-2 c = search needs
 
 decrement-first-at-requires : tie.Need-decrement-first-at-requires
-decrement-first-at-requires c κs = 
+decrement-first-at-requires c κs =
     ready-on
     (told-word (c .before .before .before .before .before .token-at .ensures) (c .before .before .before .token .given .1) (c .enum-told2 .given .1))
     (ready-start (c .before .before .before .before .before .before .before .pre))
@@ -48,7 +48,7 @@ no-letters-requires-2 : tie.Need-no-letters-requires-2
 no-letters-requires-2 c κs = search needs
 
 returns-2 : tie.Need-returns-2
-returns-2 c = 
+returns-2 c =
     let rest = c .alphabet-first-at .ensures in
     record {
       answers = step (told-word (c .before .before .before .before .before .before .token-at .ensures) (c .before .before .before .before .token .given .1) (c .before .enum-told .given .1)) refl refl refl (over _ (rest .answers));
@@ -56,7 +56,7 @@ returns-2 c =
     }
 
 returns-3 : tie.Need-returns-3
-returns-3 c = 
+returns-3 c =
     let rest = c .decrement-first-at .ensures in
     record {
       answers = step (told-word (c .before .before .before .before .before .before .token-at .ensures) (c .before .before .before .before .token .given .1) (c .before .enum-told2 .given .1)) refl refl refl (over _ (rest .answers));

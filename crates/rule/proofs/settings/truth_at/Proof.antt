@@ -37,7 +37,7 @@ enum-told-2 : tie.Need-enum-told-2
 enum-told-2 c = search needs
 
 sign-at-requires-2 : tie.Need-sign-at-requires-2
-sign-at-requires-2 c κs = 
+sign-at-requires-2 c κs =
     ready-on
     (told-word (c .before .before .before .before .before .token-at .ensures) (c .before .before .before .token .given .1) (c .enum-told2 .given .1))
     (went-ready (c .before .before .before .before .before .before .before .before .before .sign-at .ensures Mark.equals [] refl) (c .before .before .before .before .before .before .before .read .given .1))
@@ -46,7 +46,7 @@ enum-told-3 : tie.Need-enum-told-3
 enum-told-3 c = search needs
 
 sign-at-requires-3 : tie.Need-sign-at-requires-3
-sign-at-requires-3 c κs = 
+sign-at-requires-3 c κs =
     ready-on
     (told-word (c .before .before .before .before .before .token-at .ensures) (c .before .before .before .token .given .1) (c .enum-told3 .given .1))
     (went-ready (c .before .before .before .before .before .before .before .before .before .sign-at .ensures Mark.equals [] refl) (c .before .before .before .before .before .before .before .read .given .1))
@@ -55,7 +55,7 @@ refuse-requires-2 : tie.Need-refuse-requires-2
 refuse-requires-2 c κs = search needs
 
 returns-3 : tie.Need-returns-3
-returns-3 c = 
+returns-3 c =
     λ a.
     then
     _
@@ -64,7 +64,7 @@ returns-3 c =
     (step (told-word (c .before .before .before .before .before .before .token-at .ensures) (c .before .before .before .before .token .given .1) (c .before .enum-told2 .given .1)) refl refl refl (c .sign-at2 .ensures Mark.semicolon a refl))
 
 returns-4 : tie.Need-returns-4
-returns-4 c = 
+returns-4 c =
     λ a.
     then
     _

@@ -157,15 +157,14 @@ while-at-below t =
     and 1 while-at-kinds.ps (falls 1 while-at-kinds.ps _<_ μ-while-at t) while-at.Pre
 
 abbrev block-at-claims : ℕ → block-at-lts.Claims
-block-at-claims t =
-    (
-      token-at-reads.Asked,
-      token-at-reads.Learnt,
-      refuse-reads.Asked,
-      refuse-reads.Learnt,
-      statements-at-below t,
-      statements-at.Post,
-    )
+block-at-claims t = (
+  token-at-reads.Asked,
+  token-at-reads.Learnt,
+  refuse-reads.Asked,
+  refuse-reads.Learnt,
+  statements-at-below t,
+  statements-at.Post,
+)
 
 block-at-token-at-requires : (t : ℕ) → block-at-lts.Need-token-at-requires (block-at-claims t) (block-at-at t) block-at.Post
 block-at-token-at-requires t c κs = search needs
@@ -189,20 +188,20 @@ block-at-returns-2 : (t : ℕ) → block-at-lts.Need-returns-2 (block-at-claims 
 block-at-returns-2 t c = refuses-sign (c .before .before .before .before .before .token-at .ensures) (c .before .before .before .token .given .1) (c .before .match2 .keys2) (c .refuse2 .ensures)
 
 block-at-returns-3 : (t : ℕ) → block-at-lts.Need-returns-3 (block-at-claims t) (block-at-at t) block-at.Post
-block-at-returns-3 t c = 
+block-at-returns-3 t c =
     break (told-sign (c .before .before .before .before .before .before .token-at .ensures) (c .before .before .before .before .token .given .1) (c .before .enum-told .given .1)) refl (none-left (c .before .before .before .before .before .before .before .before .args .left) (c .if1 .taken))
 
 block-at-sub-statements-at : (t : ℕ) → block-at-lts.Need-sub-statements-at (block-at-claims t) (block-at-at t) block-at.Post
 block-at-sub-statements-at t c = omega arith
 
 block-at-statements-at-requires : (t : ℕ) → block-at-lts.Need-statements-at-requires (block-at-claims t) (block-at-at t) block-at.Post
-block-at-statements-at-requires t c κs = 
+block-at-statements-at-requires t c κs =
     let start = c .before .before .before .before .before .before .before .before in
     let f = front-sign (c .before .before .before .before .before .before .token-at .ensures) (c .before .before .before .before .token .given .1) in
     (omega (arith, start .pre .0, f .back, f .some, f .within), (ready-on f (start .pre .1 .0), (start .pre .1 .1 .0, omega (arith, start .pre .1 .1))))
 
 block-at-returns-4 : (t : ℕ) → block-at-lts.Need-returns-4 (block-at-claims t) (block-at-at t) block-at.Post
-block-at-returns-4 t c = 
+block-at-returns-4 t c =
     let start = c .before .before .before .before .before .before .before .before .before in
     step
     (told-sign (c .before .before .before .before .before .before .before .token-at .ensures) (c .before .before .before .before .before .token .given .1) (c .before .before .enum-told .given .1))
@@ -212,20 +211,19 @@ block-at-returns-4 t c =
     (rw (one-deeper (start .args .left) (c .before .if1 .left) (start .pre .1 .1 .1)) at (c .statements-at .ensures))
 
 abbrev branch-at-claims : ℕ → branch-at-lts.Claims
-branch-at-claims t =
-    (
-      block-at-below t,
-      block-at.Post,
-      token-at-reads.Asked,
-      token-at-reads.Learnt,
-      last-arm-reads.Asked,
-      last-arm-reads.Learnt,
-      plus-reads.Asked,
-      plus-reads.Learnt,
-    )
+branch-at-claims t = (
+  block-at-below t,
+  block-at.Post,
+  token-at-reads.Asked,
+  token-at-reads.Learnt,
+  last-arm-reads.Asked,
+  last-arm-reads.Learnt,
+  plus-reads.Asked,
+  plus-reads.Learnt,
+)
 
 abbrev branch-at-Inv-loop : branch-at-lts.InvT-loop
-branch-at-Inv-loop text at letters left from₀ so-far₀ arms-read₀ from so-far arms-read = 
+branch-at-Inv-loop text at letters left from₀ so-far₀ arms-read₀ from so-far arms-read =
     Comes
     text
     (spot from₀ (block (16 - left) ∷ arms (16 - left) 1 ∷ []) (totals (alphabetOf letters) so-far₀))
@@ -241,7 +239,7 @@ branch-at-loop-holds : (t : ℕ) → branch-at-lts.Need-loop-holds (branch-at-cl
 branch-at-loop-holds t c = (stand _, c .before .pre .1 .0, omega arith, omega arith)
 
 branch-at-block-at-requires : (t : ℕ) → branch-at-lts.Need-block-at-requires (branch-at-claims t) (branch-at-at t) branch-at.Post branch-at-Inv-loop branch-at-μ-loop
-branch-at-block-at-requires t c κs = 
+branch-at-block-at-requires t c κs =
     let start = c .before .before in
     let at-loop = c .loop .inv in
     (omega (arith, start .pre .0, at-loop .0 .forth), (at-loop .1, start .pre .1 .1))
@@ -265,7 +263,7 @@ branch-at-last-arm-requires : (t : ℕ) → branch-at-lts.Need-last-arm-requires
 branch-at-last-arm-requires t c κs = search needs
 
 branch-at-returns-2 : (t : ℕ) → branch-at-lts.Need-returns-2 (branch-at-claims t) (branch-at-at t) branch-at.Post branch-at-Inv-loop branch-at-μ-loop
-branch-at-returns-2 t c = 
+branch-at-returns-2 t c =
     let start = c .before .before .before .before .before .before .before .before .before in
     let first = c .before .before .token-at .ensures in
     onward
@@ -286,7 +284,7 @@ branch-at-last-arm-requires-2 : (t : ℕ) → branch-at-lts.Need-last-arm-requir
 branch-at-last-arm-requires-2 t c κs = search needs
 
 branch-at-returns-3 : (t : ℕ) → branch-at-lts.Need-returns-3 (branch-at-claims t) (branch-at-at t) branch-at.Post branch-at-Inv-loop branch-at-μ-loop
-branch-at-returns-3 t c = 
+branch-at-returns-3 t c =
     let start = c .before .before .before .before .before .before .before .before .before .before .before .before in
     let at-token = c .before .before .before in
     let first = c .before .before .before .before .before .token-at .ensures in
@@ -309,7 +307,7 @@ branch-at-returns-3 t c =
     (c .last-arm2 .ensures))
 
 branch-at-returns-4 : (t : ℕ) → branch-at-lts.Need-returns-4 (branch-at-claims t) (branch-at-at t) branch-at.Post branch-at-Inv-loop branch-at-μ-loop
-branch-at-returns-4 t c = 
+branch-at-returns-4 t c =
     onward
     (c .before .before .before .before .before .before .before .before .before .before .before .loop .inv .0)
     (then
@@ -325,19 +323,18 @@ branch-at-add-arms-read : (t : ℕ) → branch-at-lts.Need-add-arms-read (branch
 branch-at-add-arms-read t c = omega arith
 
 branch-at-loop-less : (t : ℕ) → branch-at-lts.Need-loop-less (branch-at-claims t) (branch-at-at t) branch-at.Post branch-at-Inv-loop branch-at-μ-loop
-branch-at-loop-less t c = 
+branch-at-loop-less t c =
     let f = front-word (c .before .before .before .before .before .before .before .token-at .ensures) (c .before .before .before .before .before .token .given .1) in
     omega (arith, went-forth (c .before .before .before .before .before .before .before .before .before .before .before .block-at .ensures) (c .before .before .before .before .before .before .before .before .before .arm .given .1), f .back, f .some, f .within)
 
 branch-at-loop-again : (t : ℕ) → branch-at-lts.Need-loop-again (branch-at-claims t) (branch-at-at t) branch-at.Post branch-at-Inv-loop branch-at-μ-loop
-branch-at-loop-again t c = 
+branch-at-loop-again t c =
     let start = c .before .before .before .before .before .before .before .before .before .before .before .before .before .before in
     let at-loop = c .before .before .before .before .before .before .before .before .before .before .before .before .loop in
     let arm = c .before .before .before .before .before .before .before .before .before .before .before .block-at .ensures in
     let read = c .before .before .before .before .before .before .before .before .before .arm .given .1 in
     let f = told-word (c .before .before .before .before .before .before .before .token-at .ensures) (c .before .before .before .before .before .token .given .1) (c .before .before .enum-told2 .given .1) in
-    let few : at-loop .arms-read < 8 = omega (arith, c .before .if1 .left, at-loop .inv .3) in
-    (
+    let few : at-loop .arms-read < 8 = omega (arith, c .before .if1 .left, at-loop .inv .3) in (
       comes-then (at-loop .inv .0) (comes-then (went _ arm read) (next-arm (16 - start .args .left) (at-loop .arms-read) f (at-loop .inv .2) few (c .plus .ensures))),
       ready-plus f (went-ready arm read) (c .plus .ensures) (omega arith) (omega arith),
       omega arith,
@@ -345,13 +342,12 @@ branch-at-loop-again t c =
     )
 
 abbrev guarded-at-claims : ℕ → guarded-at-lts.Claims
-guarded-at-claims t =
-    (
-      condition-at-reads.Asked,
-      condition-at-reads.Learnt,
-      block-at-below t,
-      block-at.Post,
-    )
+guarded-at-claims t = (
+  condition-at-reads.Asked,
+  condition-at-reads.Learnt,
+  block-at-below t,
+  block-at.Post,
+)
 
 guarded-at-condition-at-requires : (t : ℕ) → guarded-at-lts.Need-condition-at-requires (guarded-at-claims t) (guarded-at-at t) guarded-at.Post
 guarded-at-condition-at-requires t c κs = (c .before .pre .1 .0, (c .before .pre .1 .1 .0, omega arith))
@@ -366,7 +362,7 @@ guarded-at-returns : (t : ℕ) → guarded-at-lts.Need-returns (guarded-at-claim
 guarded-at-returns t c = stop _ (c .before .before .condition-at .ensures) (c .enum-told .given .1)
 
 guarded-at-block-at-requires : (t : ℕ) → guarded-at-lts.Need-block-at-requires (guarded-at-claims t) (guarded-at-at t) guarded-at.Post
-guarded-at-block-at-requires t c κs = 
+guarded-at-block-at-requires t c κs =
     let start = c .before .before .before .before .before in
     let read = c .before .before .before .condition-at .ensures in
     (omega (arith, start .pre .0, went-forth read (c .before .read .given .1), went-ready read (c .before .read .given .1)), (went-ready read (c .before .read .given .1), start .pre .1 .1))
@@ -375,17 +371,16 @@ guarded-at-returns-2 : (t : ℕ) → guarded-at-lts.Need-returns-2 (guarded-at-c
 guarded-at-returns-2 t c = then _ (c .before .before .before .before .condition-at .ensures) (c .before .before .read .given .1) (c .block-at .ensures)
 
 abbrev if-at-claims : ℕ → if-at-lts.Claims
-if-at-claims t =
-    (
-      sign-at-reads.Asked,
-      sign-at-reads.Learnt,
-      guarded-at-below t,
-      guarded-at.Post,
-      token-at-reads.Asked,
-      token-at-reads.Learnt,
-      block-at-below t,
-      block-at.Post,
-    )
+if-at-claims t = (
+  sign-at-reads.Asked,
+  sign-at-reads.Learnt,
+  guarded-at-below t,
+  guarded-at.Post,
+  token-at-reads.Asked,
+  token-at-reads.Learnt,
+  block-at-below t,
+  block-at.Post,
+)
 
 if-at-sign-at-requires : (t : ℕ) → if-at-lts.Need-sign-at-requires (if-at-claims t) (if-at-at t) if-at.Post
 if-at-sign-at-requires t c κs = c .before .pre .1 .0
@@ -400,7 +395,7 @@ if-at-returns : (t : ℕ) → if-at-lts.Need-returns (if-at-claims t) (if-at-at 
 if-at-returns t c = stop _ (c .before .before .sign-at .ensures Mark.opens (alphabetOf (c .before .before .before .before .args .letters)) refl) (c .enum-told .given .1)
 
 if-at-guarded-at-requires : (t : ℕ) → if-at-lts.Need-guarded-at-requires (if-at-claims t) (if-at-at t) if-at.Post
-if-at-guarded-at-requires t c κs = 
+if-at-guarded-at-requires t c κs =
     let start = c .before .before .before .before .before in
     let opened = c .before .before .before .sign-at .ensures Mark.opens (alphabetOf (c .before .before .before .before .before .args .letters)) refl in
     (omega (arith, start .pre .0, went-forth opened (c .before .read .given .1), went-ready opened (c .before .read .given .1)), (went-ready opened (c .before .read .given .1), start .pre .1 .1))
@@ -421,7 +416,7 @@ if-at-enum-known-token : (t : ℕ) → if-at-lts.Need-enum-known-token (if-at-cl
 if-at-enum-known-token t c = search needs
 
 if-at-returns-3 : (t : ℕ) → if-at-lts.Need-returns-3 (if-at-claims t) (if-at-at t) if-at.Post
-if-at-returns-3 t c = 
+if-at-returns-3 t c =
     let first = c .before .token-at .ensures in
     then
     _
@@ -437,7 +432,7 @@ if-at-enum-told-3 : (t : ℕ) → if-at-lts.Need-enum-told-3 (if-at-claims t) (i
 if-at-enum-told-3 t c = search needs
 
 if-at-returns-4 : (t : ℕ) → if-at-lts.Need-returns-4 (if-at-claims t) (if-at-at t) if-at.Post
-if-at-returns-4 t c = 
+if-at-returns-4 t c =
     let first = c .before .before .before .before .token-at .ensures in
     then
     _
@@ -450,7 +445,7 @@ if-at-returns-4 t c =
     (no-else-here first (not-word Mark.else Word.Else (spelling "else") first refl refl (c .before .before .token .given .1) (c .match4 .keys2))))
 
 if-at-block-at-requires : (t : ℕ) → if-at-lts.Need-block-at-requires (if-at-claims t) (if-at-at t) if-at.Post
-if-at-block-at-requires t c κs = 
+if-at-block-at-requires t c κs =
     let start = c .before .before .before .before .before .before .before .before .before .before .before .before .before .before .before in
     let opened = c .before .before .before .before .before .before .before .before .before .before .before .before .before .sign-at .ensures Mark.opens (alphabetOf (c .before .before .before .before .before .before .before .before .before .before .before .before .before .before .before .args .letters)) refl in
     let guarded = c .before .before .before .before .before .before .before .before .before .guarded-at .ensures in
@@ -458,7 +453,7 @@ if-at-block-at-requires t c κs =
     (omega (arith, start .pre .0, went-forth opened (c .before .before .before .before .before .before .before .before .before .before .before .read .given .1), went-forth guarded (c .before .before .before .before .before .before .before .guarded .given .1), f .back, f .some, f .within), (ready-on f (went-ready guarded (c .before .before .before .before .before .before .before .guarded .given .1)), start .pre .1 .1))
 
 if-at-returns-5 : (t : ℕ) → if-at-lts.Need-returns-5 (if-at-claims t) (if-at-at t) if-at.Post
-if-at-returns-5 t c = 
+if-at-returns-5 t c =
     then
     _
     (c .before .before .before .before .before .before .before .before .before .before .before .before .before .before .sign-at .ensures Mark.opens (alphabetOf (c .before .before .before .before .before .before .before .before .before .before .before .before .before .before .before .before .args .letters)) refl)
@@ -470,29 +465,28 @@ if-at-returns-5 t c =
     (step (told-word (c .before .before .before .before .before .before .token-at .ensures) (c .before .before .before .before .token .given .1) (c .before .enum-told3 .given .1)) refl refl refl (over _ (c .block-at .ensures))))
 
 abbrev statement-at-claims : ℕ → statement-at-lts.Claims
-statement-at-claims t =
-    (
-      token-at-reads.Asked,
-      token-at-reads.Learnt,
-      refuse-reads.Asked,
-      refuse-reads.Learnt,
-      plus-reads.Asked,
-      plus-reads.Learnt,
-      move-at-reads.Asked,
-      move-at-reads.Learnt,
-      goto-at-reads.Asked,
-      goto-at-reads.Learnt,
-      change-at-reads.Asked,
-      change-at-reads.Learnt,
-      sign-at-reads.Asked,
-      sign-at-reads.Learnt,
-      if-at-below t,
-      if-at.Post,
-      while-at-below t,
-      while-at.Post,
-      branch-at-below t,
-      branch-at.Post,
-    )
+statement-at-claims t = (
+  token-at-reads.Asked,
+  token-at-reads.Learnt,
+  refuse-reads.Asked,
+  refuse-reads.Learnt,
+  plus-reads.Asked,
+  plus-reads.Learnt,
+  move-at-reads.Asked,
+  move-at-reads.Learnt,
+  goto-at-reads.Asked,
+  goto-at-reads.Learnt,
+  change-at-reads.Asked,
+  change-at-reads.Learnt,
+  sign-at-reads.Asked,
+  sign-at-reads.Learnt,
+  if-at-below t,
+  if-at.Post,
+  while-at-below t,
+  while-at.Post,
+  branch-at-below t,
+  branch-at.Post,
+)
 
 statement-at-token-at-requires : (t : ℕ) → statement-at-lts.Need-token-at-requires (statement-at-claims t) (statement-at-at t) statement-at.Post
 statement-at-token-at-requires t c κs = search needs
@@ -504,7 +498,7 @@ statement-at-refuse-requires : (t : ℕ) → statement-at-lts.Need-refuse-requir
 statement-at-refuse-requires t c κs = search needs
 
 statement-at-returns : (t : ℕ) → statement-at-lts.Need-returns (statement-at-claims t) (statement-at-at t) statement-at.Post
-statement-at-returns t c = 
+statement-at-returns t c =
     let first = c .before .before .token-at .ensures in
     record { answers = refuses first (nor-sign (c .before .before .before .before .pre .1 .1 .0) first (c .before .match .keys2)) (c .refuse .ensures); past = tt }
 
@@ -515,7 +509,7 @@ statement-at-plus-requires : (t : ℕ) → statement-at-lts.Need-plus-requires (
 statement-at-plus-requires t c κs = omega (arith, c .before .before .before .before .before .before .before .pre .1 .0)
 
 statement-at-move-at-requires : (t : ℕ) → statement-at-lts.Need-move-at-requires (statement-at-claims t) (statement-at-at t) statement-at.Post
-statement-at-move-at-requires t c κs = 
+statement-at-move-at-requires t c κs =
     let start = c .before .before .before .before .before .before .before .before in
     let f = told-word (c .before .before .before .before .before .before .token-at .ensures) (c .before .before .before .before .token .given .1) (c .before .enum-told .given .1) in
     ready-plus f (start .pre .1 .0) (c .plus .ensures) (omega arith) (omega arith)
@@ -527,7 +521,7 @@ statement-at-plus-requires-2 : (t : ℕ) → statement-at-lts.Need-plus-requires
 statement-at-plus-requires-2 t c κs = omega (arith, c .before .before .before .before .before .before .before .pre .1 .0)
 
 statement-at-goto-at-requires : (t : ℕ) → statement-at-lts.Need-goto-at-requires (statement-at-claims t) (statement-at-at t) statement-at.Post
-statement-at-goto-at-requires t c κs = 
+statement-at-goto-at-requires t c κs =
     let start = c .before .before .before .before .before .before .before .before in
     let f = told-word (c .before .before .before .before .before .before .token-at .ensures) (c .before .before .before .before .token .given .1) (c .before .enum-told2 .given .1) in
     ready-plus f (start .pre .1 .0) (c .plus2 .ensures) (omega arith) (omega arith)
@@ -539,7 +533,7 @@ statement-at-plus-requires-3 : (t : ℕ) → statement-at-lts.Need-plus-requires
 statement-at-plus-requires-3 t c κs = omega (arith, c .before .before .before .before .before .before .before .pre .1 .0)
 
 statement-at-change-at-requires : (t : ℕ) → statement-at-lts.Need-change-at-requires (statement-at-claims t) (statement-at-at t) statement-at.Post
-statement-at-change-at-requires t c κs = 
+statement-at-change-at-requires t c κs =
     let start = c .before .before .before .before .before .before .before .before in
     let f = told-word (c .before .before .before .before .before .before .token-at .ensures) (c .before .before .before .before .token .given .1) (c .before .enum-told3 .given .1) in
     ready-plus f (start .pre .1 .0) (c .plus3 .ensures) (omega arith) (omega arith)
@@ -551,7 +545,7 @@ statement-at-plus-requires-4 : (t : ℕ) → statement-at-lts.Need-plus-requires
 statement-at-plus-requires-4 t c κs = omega (arith, c .before .before .before .before .before .before .before .pre .1 .0)
 
 statement-at-sign-at-requires : (t : ℕ) → statement-at-lts.Need-sign-at-requires (statement-at-claims t) (statement-at-at t) statement-at.Post
-statement-at-sign-at-requires t c κs = 
+statement-at-sign-at-requires t c κs =
     let start = c .before .before .before .before .before .before .before .before in
     let f = told-word (c .before .before .before .before .before .before .token-at .ensures) (c .before .before .before .before .token .given .1) (c .before .enum-told4 .given .1) in
     ready-plus f (start .pre .1 .0) (c .plus4 .ensures) (omega arith) (omega arith)
@@ -563,7 +557,7 @@ statement-at-plus-requires-5 : (t : ℕ) → statement-at-lts.Need-plus-requires
 statement-at-plus-requires-5 t c κs = omega (arith, c .before .before .before .before .before .before .before .pre .1 .0)
 
 statement-at-sign-at-requires-2 : (t : ℕ) → statement-at-lts.Need-sign-at-requires-2 (statement-at-claims t) (statement-at-at t) statement-at.Post
-statement-at-sign-at-requires-2 t c κs = 
+statement-at-sign-at-requires-2 t c κs =
     let start = c .before .before .before .before .before .before .before .before in
     let f = told-word (c .before .before .before .before .before .before .token-at .ensures) (c .before .before .before .before .token .given .1) (c .before .enum-told5 .given .1) in
     ready-plus f (start .pre .1 .0) (c .plus5 .ensures) (omega arith) (omega arith)
@@ -575,7 +569,7 @@ statement-at-plus-requires-6 : (t : ℕ) → statement-at-lts.Need-plus-requires
 statement-at-plus-requires-6 t c κs = omega (arith, c .before .before .before .before .before .before .before .pre .1 .0)
 
 statement-at-if-at-requires : (t : ℕ) → statement-at-lts.Need-if-at-requires (statement-at-claims t) (statement-at-at t) statement-at.Post
-statement-at-if-at-requires t c κs = 
+statement-at-if-at-requires t c κs =
     let start = c .before .before .before .before .before .before .before .before in
     let f = told-word (c .before .before .before .before .before .before .token-at .ensures) (c .before .before .before .before .token .given .1) (c .before .enum-told6 .given .1) in
     (omega (arith, start .pre .0, f .back, f .some, f .within), (ready-plus f (start .pre .1 .0) (c .plus6 .ensures) (omega arith) (omega arith), start .pre .1 .1 .1))
@@ -584,7 +578,7 @@ statement-at-enum-told-7 : (t : ℕ) → statement-at-lts.Need-enum-told-7 (stat
 statement-at-enum-told-7 t c = search needs
 
 statement-at-while-at-requires : (t : ℕ) → statement-at-lts.Need-while-at-requires (statement-at-claims t) (statement-at-at t) statement-at.Post
-statement-at-while-at-requires t c κs = 
+statement-at-while-at-requires t c κs =
     let start = c .before .before .before .before .before .before .before in
     let f = told-word (c .before .before .before .before .before .token-at .ensures) (c .before .before .before .token .given .1) (c .enum-told7 .given .1) in
     (omega (arith, start .pre .0, f .back, f .some, f .within), (ready-on f (start .pre .1 .0), start .pre .1 .1 .1))
@@ -596,7 +590,7 @@ statement-at-plus-requires-7 : (t : ℕ) → statement-at-lts.Need-plus-requires
 statement-at-plus-requires-7 t c κs = omega (arith, c .before .before .before .before .before .before .before .pre .1 .0)
 
 statement-at-branch-at-requires : (t : ℕ) → statement-at-lts.Need-branch-at-requires (statement-at-claims t) (statement-at-at t) statement-at.Post
-statement-at-branch-at-requires t c κs = 
+statement-at-branch-at-requires t c κs =
     let start = c .before .before .before .before .before .before .before .before in
     let f = told-word (c .before .before .before .before .before .before .token-at .ensures) (c .before .before .before .before .token .given .1) (c .before .enum-told8 .given .1) in
     (omega (arith, start .pre .0, f .back, f .some, f .within), (ready-plus f (start .pre .1 .0) (c .plus7 .ensures) (omega arith) (omega arith), start .pre .1 .1 .1))
@@ -605,7 +599,7 @@ statement-at-refuse-requires-2 : (t : ℕ) → statement-at-lts.Need-refuse-requ
 statement-at-refuse-requires-2 t c κs = search needs
 
 statement-at-returns-2 : (t : ℕ) → statement-at-lts.Need-returns-2 (statement-at-claims t) (statement-at-at t) statement-at.Post
-statement-at-returns-2 t c = 
+statement-at-returns-2 t c =
     eats
     (told-word (c .before .before .before .before .before .before .before .token-at .ensures) (c .before .before .before .before .before .token .given .1) (c .before .before .enum-told .given .1))
     refl
@@ -614,7 +608,7 @@ statement-at-returns-2 t c =
     (over _ (c .move-at .ensures (alphabetOf (c .before .before .before .before .before .before .before .before .before .args .letters))))
 
 statement-at-returns-3 : (t : ℕ) → statement-at-lts.Need-returns-3 (statement-at-claims t) (statement-at-at t) statement-at.Post
-statement-at-returns-3 t c = 
+statement-at-returns-3 t c =
     eats
     (told-word (c .before .before .before .before .before .before .before .token-at .ensures) (c .before .before .before .before .before .token .given .1) (c .before .before .enum-told2 .given .1))
     refl
@@ -623,7 +617,7 @@ statement-at-returns-3 t c =
     (over _ (c .goto-at .ensures (alphabetOf (c .before .before .before .before .before .before .before .before .before .args .letters))))
 
 statement-at-returns-4 : (t : ℕ) → statement-at-lts.Need-returns-4 (statement-at-claims t) (statement-at-at t) statement-at.Post
-statement-at-returns-4 t c = 
+statement-at-returns-4 t c =
     eats
     (told-word (c .before .before .before .before .before .before .before .token-at .ensures) (c .before .before .before .before .before .token .given .1) (c .before .before .enum-told3 .given .1))
     refl
@@ -632,7 +626,7 @@ statement-at-returns-4 t c =
     (over _ (c .change-at .ensures (alphabetOf (c .before .before .before .before .before .before .before .before .before .args .letters))))
 
 statement-at-returns-5 : (t : ℕ) → statement-at-lts.Need-returns-5 (statement-at-claims t) (statement-at-at t) statement-at.Post
-statement-at-returns-5 t c = 
+statement-at-returns-5 t c =
     eats
     (told-word (c .before .before .before .before .before .before .before .token-at .ensures) (c .before .before .before .before .before .token .given .1) (c .before .before .enum-told4 .given .1))
     refl
@@ -641,7 +635,7 @@ statement-at-returns-5 t c =
     (over _ (c .sign-at .ensures Mark.semicolon (alphabetOf (c .before .before .before .before .before .before .before .before .before .args .letters)) refl))
 
 statement-at-returns-6 : (t : ℕ) → statement-at-lts.Need-returns-6 (statement-at-claims t) (statement-at-at t) statement-at.Post
-statement-at-returns-6 t c = 
+statement-at-returns-6 t c =
     eats
     (told-word (c .before .before .before .before .before .before .before .token-at .ensures) (c .before .before .before .before .before .token .given .1) (c .before .before .enum-told5 .given .1))
     refl
@@ -650,7 +644,7 @@ statement-at-returns-6 t c =
     (over _ (c .sign-at2 .ensures Mark.semicolon (alphabetOf (c .before .before .before .before .before .before .before .before .before .args .letters)) refl))
 
 statement-at-returns-7 : (t : ℕ) → statement-at-lts.Need-returns-7 (statement-at-claims t) (statement-at-at t) statement-at.Post
-statement-at-returns-7 t c = 
+statement-at-returns-7 t c =
     eats
     (told-word (c .before .before .before .before .before .before .before .token-at .ensures) (c .before .before .before .before .before .token .given .1) (c .before .before .enum-told6 .given .1))
     refl
@@ -659,7 +653,7 @@ statement-at-returns-7 t c =
     (c .if-at .ensures)
 
 statement-at-returns-8 : (t : ℕ) → statement-at-lts.Need-returns-8 (statement-at-claims t) (statement-at-at t) statement-at.Post
-statement-at-returns-8 t c = 
+statement-at-returns-8 t c =
     eats
     (told-word (c .before .before .before .before .before .before .token-at .ensures) (c .before .before .before .before .token .given .1) (c .before .enum-told7 .given .1))
     refl
@@ -668,7 +662,7 @@ statement-at-returns-8 t c =
     (over _ (c .while-at .ensures))
 
 statement-at-returns-9 : (t : ℕ) → statement-at-lts.Need-returns-9 (statement-at-claims t) (statement-at-at t) statement-at.Post
-statement-at-returns-9 t c = 
+statement-at-returns-9 t c =
     eats
     (told-word (c .before .before .before .before .before .before .before .token-at .ensures) (c .before .before .before .before .before .token .given .1) (c .before .before .enum-told8 .given .1))
     refl
@@ -680,18 +674,17 @@ statement-at-returns-10 : (t : ℕ) → statement-at-lts.Need-returns-10 (statem
 statement-at-returns-10 t c = record { answers = refuses-word (c .before .before .before .before .before .token-at .ensures) (c .before .before .before .token .given .1) (c .before .match2 .keys9) (c .refuse2 .ensures); past = tt }
 
 abbrev statements-at-claims : ℕ → statements-at-lts.Claims
-statements-at-claims t =
-    (
-      token-at-reads.Asked,
-      token-at-reads.Learnt,
-      refuse-reads.Asked,
-      refuse-reads.Learnt,
-      statement-at-below t,
-      statement-at.Post,
-    )
+statements-at-claims t = (
+  token-at-reads.Asked,
+  token-at-reads.Learnt,
+  refuse-reads.Asked,
+  refuse-reads.Learnt,
+  statement-at-below t,
+  statement-at.Post,
+)
 
 abbrev statements-at-Inv-loop : statements-at-lts.InvT-loop
-statements-at-Inv-loop text at letters left from₀ so-far₀ from so-far = 
+statements-at-Inv-loop text at letters left from₀ so-far₀ from so-far =
     Comes
     text
     (spot from₀ (statements (16 - left) ∷ []) (totals (alphabetOf letters) so-far₀))
@@ -720,12 +713,12 @@ statements-at-returns : (t : ℕ) → statements-at-lts.Need-returns (statements
 statements-at-returns t c = onward (c .before .before .before .before .before .before .loop .inv .0) (refuses-sign (c .before .before .before .before .before .token-at .ensures) (c .before .before .before .token .given .1) (c .before .match2 .keys2) (c .refuse .ensures))
 
 statements-at-returns-2 : (t : ℕ) → statements-at-lts.Need-returns-2 (statements-at-claims t) (statements-at-at t) statements-at.Post statements-at-Inv-loop statements-at-μ-loop
-statements-at-returns-2 t c = 
+statements-at-returns-2 t c =
     let f = told-sign (c .before .before .before .before .before .token-at .ensures) (c .before .before .before .token .given .1) (c .enum-told .given .1) in
     onward (c .before .before .before .before .before .before .loop .inv .0) (step f refl refl refl (done (ready-on f (c .before .before .before .before .before .before .loop .inv .1))))
 
 statements-at-statement-at-requires : (t : ℕ) → statements-at-lts.Need-statement-at-requires (statements-at-claims t) (statements-at-at t) statements-at.Post statements-at-Inv-loop statements-at-μ-loop
-statements-at-statement-at-requires t c κs = 
+statements-at-statement-at-requires t c κs =
     let start = c .before .before .before .before in
     let at-loop = c .before .before .loop .inv in
     (omega (arith, start .pre .0, at-loop .0 .forth), (at-loop .1, (no-sign-first (c .before .token-at .ensures) (c .match .keys2), start .pre .1 .1)))
@@ -740,29 +733,28 @@ statements-at-returns-3 : (t : ℕ) → statements-at-lts.Need-returns-3 (statem
 statements-at-returns-3 t c = onward (c .before .before .before .before .before .loop .inv .0) (stop [] (c .before .before .statement-at .ensures .answers) (c .enum-told2 .given .1))
 
 statements-at-loop-less : (t : ℕ) → statements-at-lts.Need-loop-less (statements-at-claims t) (statements-at-at t) statements-at.Post statements-at-Inv-loop statements-at-μ-loop
-statements-at-loop-less t c = 
+statements-at-loop-less t c =
     let ate = c .before .before .before .statement-at .ensures in
     omega (arith, past-went ate (c .before .read .given .1), went-ready (ate .answers) (c .before .read .given .1))
 
 statements-at-loop-again : (t : ℕ) → statements-at-lts.Need-loop-again (statements-at-claims t) (statements-at-at t) statements-at.Post statements-at-Inv-loop statements-at-μ-loop
-statements-at-loop-again t c = 
+statements-at-loop-again t c =
     let ate = c .before .before .before .statement-at .ensures .answers in
     (comes-then (c .before .before .before .before .before .before .loop .inv .0) (went [] ate (c .before .read .given .1)), went-ready ate (c .before .read .given .1))
 
 abbrev while-at-claims : ℕ → while-at-lts.Claims
-while-at-claims t =
-    (
-      token-at-reads.Asked,
-      token-at-reads.Learnt,
-      refuse-reads.Asked,
-      refuse-reads.Learnt,
-      plus-reads.Asked,
-      plus-reads.Learnt,
-      guarded-at-below t,
-      guarded-at.Post,
-      block-at-below t,
-      block-at.Post,
-    )
+while-at-claims t = (
+  token-at-reads.Asked,
+  token-at-reads.Learnt,
+  refuse-reads.Asked,
+  refuse-reads.Learnt,
+  plus-reads.Asked,
+  plus-reads.Learnt,
+  guarded-at-below t,
+  guarded-at.Post,
+  block-at-below t,
+  block-at.Post,
+)
 
 while-at-token-at-requires : (t : ℕ) → while-at-lts.Need-token-at-requires (while-at-claims t) (while-at-at t) while-at.Post
 while-at-token-at-requires t c κs = search needs
@@ -783,7 +775,7 @@ while-at-plus-requires : (t : ℕ) → while-at-lts.Need-plus-requires (while-at
 while-at-plus-requires t c κs = omega (arith, c .before .before .before .before .before .before .before .pre .1 .0)
 
 while-at-guarded-at-requires : (t : ℕ) → while-at-lts.Need-guarded-at-requires (while-at-claims t) (while-at-at t) while-at.Post
-while-at-guarded-at-requires t c κs = 
+while-at-guarded-at-requires t c κs =
     let start = c .before .before .before .before .before .before .before .before in
     let f = told-sign (c .before .before .before .before .before .before .token-at .ensures) (c .before .before .before .before .token .given .1) (c .before .enum-told .given .1) in
     (omega (arith, start .pre .0, f .back, f .some, f .within), (ready-plus f (start .pre .1 .0) (c .plus .ensures) (omega arith) (omega arith), start .pre .1 .1))
@@ -804,7 +796,7 @@ while-at-plus-requires-2 : (t : ℕ) → while-at-lts.Need-plus-requires-2 (whil
 while-at-plus-requires-2 t c κs = omega (arith, c .before .before .before .before .before .before .before .pre .1 .0)
 
 while-at-block-at-requires : (t : ℕ) → while-at-lts.Need-block-at-requires (while-at-claims t) (while-at-at t) while-at.Post
-while-at-block-at-requires t c κs = 
+while-at-block-at-requires t c κs =
     let start = c .before .before .before .before .before .before .before .before in
     let f = told-word (c .before .before .before .before .before .before .token-at .ensures) (c .before .before .before .before .token2 .given .1) (c .before .enum-told2 .given .1) in
     (omega (arith, start .pre .0, f .back, f .some, f .within), (ready-plus f (start .pre .1 .0) (c .plus2 .ensures) (omega arith) (omega arith), start .pre .1 .1))
@@ -813,7 +805,7 @@ while-at-refuse-requires-3 : (t : ℕ) → while-at-lts.Need-refuse-requires-3 (
 while-at-refuse-requires-3 t c κs = search needs
 
 while-at-returns-3 : (t : ℕ) → while-at-lts.Need-returns-3 (while-at-claims t) (while-at-at t) while-at.Post
-while-at-returns-3 t c = 
+while-at-returns-3 t c =
     step
     (told-sign (c .before .before .before .before .before .before .before .token-at .ensures) (c .before .before .before .before .before .token .given .1) (c .before .before .enum-told .given .1))
     refl
@@ -822,7 +814,7 @@ while-at-returns-3 t c =
     (c .guarded-at .ensures)
 
 while-at-returns-4 : (t : ℕ) → while-at-lts.Need-returns-4 (while-at-claims t) (while-at-at t) while-at.Post
-while-at-returns-4 t c = 
+while-at-returns-4 t c =
     step
     (told-word (c .before .before .before .before .before .before .before .token-at .ensures) (c .before .before .before .before .before .token2 .given .1) (c .before .before .enum-told2 .given .1))
     refl

@@ -23,7 +23,7 @@ array-read-if1 : tie.Need-array-read-if1 Inv-loop μ-loop
 array-read-if1 c = omega arith
 
 returns : tie.Need-returns Inv-loop μ-loop
-returns c = 
+returns c =
     let start = c .before .before .before .before in
     let at-loop = c .before .before .loop in
     let inside = alphabet-length (start .pre) in
@@ -43,20 +43,22 @@ loop-less : tie.Need-loop-less Inv-loop μ-loop
 loop-less c = omega arith
 
 loop-again : tie.Need-loop-again Inv-loop μ-loop
-loop-again c = 
+loop-again c =
     let start = c .before .before .before .before in
     let at-loop = c .before .before .loop in
-    let inside = alphabet-length (start .pre) in
-    (omega arith, at-loop .inv .1
-    ∙ look-on
-    (start .args .byte)
-    (alphabetOf (start .args .self))
-    (at-loop .i)
-    (omega arith)
-    (λ e. c .if1 .left (sym (getD-take (start .args .self .count) (start .args .self .bytes) (at-loop .i) 0 (c .before .loop-test .taken)) ∙ e)))
+    let inside = alphabet-length (start .pre) in (
+      omega arith,
+      at-loop .inv .1
+          ∙ look-on
+          (start .args .byte)
+          (alphabetOf (start .args .self))
+          (at-loop .i)
+          (omega arith)
+          (λ e. c .if1 .left (sym (getD-take (start .args .self .count) (start .args .self .bytes) (at-loop .i) 0 (c .before .loop-test .taken)) ∙ e)),
+    )
 
 returns-2 : tie.Need-returns-2 Inv-loop μ-loop
-returns-2 c = 
+returns-2 c =
     let start = c .before .before .before in
     let inside = alphabet-length (start .pre) in
     sym (c .before .loop .inv .1 ∙ found-nowhere (start .args .byte) (alphabetOf (start .args .self)) (c .before .loop .i) (omega arith))
