@@ -27,3 +27,4 @@ pub mod AtomRows
 pub mod AtomTokens
 pub mod Walking
 pub mod Stepping
+pub mod Setting

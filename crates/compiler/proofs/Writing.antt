@@ -43,7 +43,7 @@ length-front : (h : Sheet) → length (front h) ≡ length (h .alphabet) + 19
 unfolding front twoBytes
 length-front h = simp (length-append, length-field) (omega arith)
 
-length-written : (h : Sheet) (accepting : List ℕ) (rows : List Row) → length (written h accepting rows) ≡ rowPlace h rows
+pub length-written : (h : Sheet) (accepting : List ℕ) (rows : List Row) → length (written h accepting rows) ≡ rowPlace h rows
 unfolding written twoBytes
 length-written h accepting rows = simp (length-append, length-front, length-accept, length-rows) (omega arith)
 
