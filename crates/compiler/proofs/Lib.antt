@@ -28,3 +28,5 @@ pub mod AtomTokens
 pub mod Walking
 pub mod Stepping
 pub mod Setting
+-- compiling
+pub mod Compiling

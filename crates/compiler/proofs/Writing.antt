@@ -36,7 +36,7 @@ over-behind xs new old n long =
     ∙ drop-drop (length new) n old)
     ∙ sym (append-assoc xs new (drop (n + length new) old))
 
-length-accept : (accepting : List ℕ) → length (acceptBytes accepting) ≡ 16
+pub length-accept : (accepting : List ℕ) → length (acceptBytes accepting) ≡ 16
 length-accept accepting = length-withBits accepting (replicate {A = ℕ} 16 0) ∙ length-replicate {A = ℕ} 16 0
 
 length-front : (h : Sheet) → length (front h) ≡ length (h .alphabet) + 19
