@@ -27,3 +27,6 @@ pub mod AtomRows
 pub mod AtomTokens
 pub mod Walking
 pub mod Stepping
+pub mod Nesting
+pub mod Branching
+pub mod Stating

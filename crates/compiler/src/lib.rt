@@ -1,6 +1,7 @@
 // From a rule's text to a table's image. The emitter goes over a text that is known to be a program without faults and
 // writes the image of its table; it never refuses.
 mod ahead;
+mod blocks;
 mod plain;
 mod see;
 mod walk;
