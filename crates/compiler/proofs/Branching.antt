@@ -2,109 +2,33 @@
 use Prim.Native.Nat.{ℕ, suc, _+_, _≤_, _<_}
 use native.Mathlib.Omega.{arith}
 use native.Mathlib.Numerals.{add-one}
-use mathlib.Core.Path.{_≡_, refl, sym, _∙_, ap, subst, subst₂}
-use mathlib.Core.Bool.{not}
-use mathlib.Core.List.{List, [], _∷_, _++_, append-nil, append-assoc}
-use lib.ListN.{length, drop}
-use lib.Dec.{T, eqb}
+use mathlib.Core.Path.{_≡_, refl, sym, ap, subst}
+use mathlib.Core.List.{List, [], _∷_, _++_}
+use lib.ListN.{length}
 use types.Run.{OneOf}
-use Rattle.text.specs.Token.{Token, word, w, s}
-use Rattle.text.specs.Tokens.{Placed, _at_}
-use Rattle.text.specs.First.{IsWord}
+use Rattle.text.specs.Token.{word, w}
+use Rattle.text.specs.Tokens.{_at_}
 use Rattle.text.specs.declared.Word.{Word}
 use Rattle.text.specs.declared.Word.the-variants as Word
 use Rattle.text.specs.declared.Sign.{Sign}
 use Rattle.text.specs.declared.Sign.the-variants as Sign
 use Rattle.table.specs.Table.{Row}
-use Rattle.rule.specs.Tree as Tree
-use Rattle.rule.specs.Tree.{Statement, Statements, Arms}
+use Rattle.rule.specs.Tree.{Statement, Arms}
 use Rattle.rule.specs.Grammar as Grammar
-use Rattle.rule.specs.Grammar.{Ts, IsStatement, IsStatements, IsBlock, IsArms, block}
-use Rattle.rule.proofs.Invert.{
-  Stop,
-  stops,
-  statement-accept,
-  statement-reject,
-  If,
-  alone,
-  orElse,
-  statement-if,
-  While,
-  statement-while,
-  Branch,
-  arms,
-  statement-branch,
-  Arm,
-  lone,
-  andMore,
-  behind-also,
-  rest-else,
-  rest-also,
-  Closed,
-  closed,
-  rest-brace,
-}
-use Rattle.rule.proofs.Invert as Invert
-use Rattle.rule.proofs.Within.{StatementWithin, StatementsWithin, ArmsWithin}
-use Rattle.compiler.specs.Construction.{
-  free,
-  Part,
-  test,
-  ifPart,
-  loopPart,
-  armPart,
-  andThen,
-  statementPart,
-  statementsPart,
-  armsPart,
-}
-use Rattle.compiler.specs.Writing.{Sheet, Filled, Room, Writes, Marks}
-use Rattle.compiler.specs.Seeing.{Here, Behind, SeenAs, Sees, Passes}
-use Rattle.compiler.specs.Emission.{
-  At,
-  Task,
-  Doing,
-  Emitted,
-  rowsPart,
-  TestTask,
-  tests,
-  EntryTask,
-  chooses,
-  asks,
-  Follows,
-  StatementTask,
-  aStatement,
-  HeadedTask,
-  headed,
-  Stops,
-  RestTask,
-  theRest,
-  closedPart,
-  BodyTask,
-  aBody,
-  ElseTask,
-  noElse,
-  anElse,
-  ArmsTask,
-  theArms,
-}
+use Rattle.rule.specs.Grammar.{Ts, IsArms, block}
+use Rattle.rule.proofs.Invert.{Branch, arms, statement-branch, Arm, lone, andMore, behind-also}
+use Rattle.rule.proofs.Within.{StatementWithin, ArmsWithin}
+use Rattle.compiler.specs.Construction.{free, Part, armPart, andThen, statementPart, statementsPart, armsPart}
+use Rattle.compiler.specs.Writing.{Sheet, Room, Writes}
+use Rattle.compiler.specs.Seeing.{SeenAs, Sees}
+use Rattle.compiler.specs.Emission.{Doing, Emitted, rowsPart, Follows, HeadedTask, closedPart, BodyTask, aBody, ArmsTask, theArms}
 use Rattle.compiler.specs.declared.Place.{Place}
 use Rattle.compiler.specs.declared.see.Seen.{Seen}
-use Rattle.compiler.proofs.Counts.{test-next, statements-next, arms-next}
-use Rattle.compiler.proofs.Tags.{wordTag, signTag, wordTags, signTags, none-of}
-use Rattle.compiler.proofs.Seeing.{here-some, seen-word, seen-sign, word-at, sign-at}
-use Rattle.compiler.proofs.Emission.{
-  at-room,
-  at-rows,
-  at-moved,
-  at-past,
-  at-onward,
-  fits-first,
-  fits-then,
-  emitted-as,
-  rows-emitted,
-}
-use Rattle.compiler.proofs.Stepping.{HeadedOf, headed-of}
+use Rattle.compiler.proofs.Counts.{statements-next, arms-next}
+use Rattle.compiler.proofs.Tags.{wordTag, wordTags, none-of}
+use Rattle.compiler.proofs.Seeing.{seen-word}
+use Rattle.compiler.proofs.Emission.{at-moved, fits-first, fits-then, emitted-as}
+use Rattle.compiler.proofs.Stepping.{headed-of}
 use Rattle.compiler.proofs.Nesting.{settled, at-anew, free-room, free-emitted, emitted-then, HeadAt, head-at}
 
 -- arms: the row to the first, its block, and what stands behind it

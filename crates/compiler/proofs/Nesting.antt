@@ -1,95 +1,35 @@
 -- Blocks and the statements that hold them: what each call has to emit, and what is emitted behind it.
 -- The states that a task speaks of are the place's own, so that what a call is given can be named by the place.
-use Prim.Native.Nat.{ℕ, suc, _+_, _≤_, _<_}
+use Prim.Native.Nat.{ℕ, _+_, _≤_, _<_}
 use native.Mathlib.Omega.{arith}
-use native.Mathlib.Numerals.{add-one}
 use mathlib.Core.Path.{_≡_, refl, sym, _∙_, ap, subst, subst₂}
 use mathlib.Core.Bool.{not}
 use mathlib.Core.List.{List, [], _∷_, _++_, append-nil, append-assoc}
-use lib.ListN.{length, drop}
+use lib.ListN.{length}
 use lib.Dec.{T, eqb}
 use types.Run.{OneOf}
 use Rattle.text.specs.Token.{Token, word, w, s}
-use Rattle.text.specs.Tokens.{Placed, _at_}
+use Rattle.text.specs.Tokens.{_at_}
 use Rattle.text.specs.First.{IsWord}
 use Rattle.text.specs.declared.Word.{Word}
 use Rattle.text.specs.declared.Word.the-variants as Word
 use Rattle.text.specs.declared.Sign.{Sign}
 use Rattle.text.specs.declared.Sign.the-variants as Sign
 use Rattle.table.specs.Table.{Row}
-use Rattle.rule.specs.Tree as Tree
-use Rattle.rule.specs.Tree.{Statement, Statements, Arms}
-use Rattle.rule.specs.Grammar as Grammar
-use Rattle.rule.specs.Grammar.{Ts, IsStatement, IsStatements, IsBlock, IsArms, block}
-use Rattle.rule.proofs.Invert.{
-  Stop,
-  stops,
-  statement-accept,
-  statement-reject,
-  If,
-  alone,
-  orElse,
-  statement-if,
-  While,
-  statement-while,
-  Branch,
-  arms,
-  statement-branch,
-  rest-else,
-  rest-also,
-  Closed,
-  closed,
-  rest-brace,
-}
+use Rattle.rule.specs.Tree.{Statement}
+use Rattle.rule.specs.Grammar.{Ts, block}
+use Rattle.rule.proofs.Invert.{If, alone, orElse, statement-if, While, statement-while}
 use Rattle.rule.proofs.Invert as Invert
-use Rattle.rule.proofs.Within.{StatementWithin, StatementsWithin, ArmsWithin}
-use Rattle.compiler.specs.Construction.{
-  free,
-  Part,
-  test,
-  ifPart,
-  loopPart,
-  armPart,
-  andThen,
-  statementPart,
-  statementsPart,
-  armsPart,
-}
-use Rattle.compiler.specs.Writing.{Sheet, Filled, Room, Writes, Marks}
+use Rattle.rule.proofs.Within.{StatementWithin}
+use Rattle.compiler.specs.Construction.{free, Part, test, ifPart, loopPart, andThen, statementPart, statementsPart}
+use Rattle.compiler.specs.Writing.{Sheet, Filled, Room, Writes}
 use Rattle.compiler.specs.Seeing.{Here, Behind, SeenAs, Sees, Passes}
-use Rattle.compiler.specs.Emission.{
-  At,
-  Task,
-  Doing,
-  Emitted,
-  rowsPart,
-  TestTask,
-  tests,
-  EntryTask,
-  chooses,
-  asks,
-  Follows,
-  StatementTask,
-  aStatement,
-  HeadedTask,
-  headed,
-  Stops,
-  RestTask,
-  theRest,
-  closedPart,
-  BodyTask,
-  aBody,
-  ElseTask,
-  noElse,
-  anElse,
-  ArmsTask,
-  theArms,
-}
+use Rattle.compiler.specs.Emission.{At, Task, Doing, Emitted, rowsPart, TestTask, tests, EntryTask, chooses, asks, Follows, HeadedTask, RestTask, theRest, closedPart, BodyTask, aBody, ElseTask, noElse, anElse}
 use Rattle.compiler.specs.declared.Place.{Place}
 use Rattle.compiler.specs.declared.see.Seen.{Seen}
-use Rattle.compiler.proofs.Counts.{test-next, statements-next, arms-next}
-use Rattle.compiler.proofs.Tags.{wordTag, signTag, wordTags, signTags, none-of}
-use Rattle.compiler.proofs.Seeing.{here-some, seen-word, seen-sign, word-at, sign-at}
+use Rattle.compiler.proofs.Counts.{test-next, statements-next}
+use Rattle.compiler.proofs.Tags.{wordTag, wordTags, none-of}
+use Rattle.compiler.proofs.Seeing.{here-some, seen-word, word-at}
 use Rattle.compiler.proofs.Emission.{
   at-room,
   at-rows,
@@ -101,7 +41,7 @@ use Rattle.compiler.proofs.Emission.{
   emitted-as,
   rows-emitted,
 }
-use Rattle.compiler.proofs.Stepping.{HeadedOf, headed-of}
+use Rattle.compiler.proofs.Stepping.{headed-of}
 
 -- a task in the place's own states
 pub settled : {task : Task} {text out : List ℕ} {place : Place} {h : Sheet} {accepting : List ℕ} {rows : List Row} {p next : ℕ} {ts us : Ts} {part : Part}
