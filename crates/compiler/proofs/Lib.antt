@@ -30,3 +30,6 @@ pub mod Stepping
 pub mod Nesting
 pub mod Branching
 pub mod Stating
+pub mod Setting
+-- compiling
+pub mod Compiling

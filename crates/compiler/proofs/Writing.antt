@@ -36,14 +36,14 @@ over-behind xs new old n long =
     ∙ drop-drop (length new) n old)
     ∙ sym (append-assoc xs new (drop (n + length new) old))
 
-length-accept : (accepting : List ℕ) → length (acceptBytes accepting) ≡ 16
+pub length-accept : (accepting : List ℕ) → length (acceptBytes accepting) ≡ 16
 length-accept accepting = length-withBits accepting (replicate {A = ℕ} 16 0) ∙ length-replicate {A = ℕ} 16 0
 
 length-front : (h : Sheet) → length (front h) ≡ length (h .alphabet) + 19
 unfolding front twoBytes
 length-front h = simp (length-append, length-field) (omega arith)
 
-length-written : (h : Sheet) (accepting : List ℕ) (rows : List Row) → length (written h accepting rows) ≡ rowPlace h rows
+pub length-written : (h : Sheet) (accepting : List ℕ) (rows : List Row) → length (written h accepting rows) ≡ rowPlace h rows
 unfolding written twoBytes
 length-written h accepting rows = simp (length-append, length-front, length-accept, length-rows) (omega arith)
 

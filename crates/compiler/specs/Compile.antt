@@ -4,25 +4,20 @@ use mathlib.Core.Path.{_≡_}
 use mathlib.Core.Logic.{_↔_}
 use mathlib.Core.List.{List, [], _∷_, _++_, List·Memᴰ}
 use lib.ListN.{length, getD, drop}
-use Rattle.table.specs.Table.{Table}
 use Rattle.table.specs.Image.{encode}
 use Rattle.table.specs.Refusal.{Reason, because, atZero, First, refusal}
 use Rattle.machine.specs.Run.{Accepts}
 use Rattle.rule.specs.Tree.{Program}
 use Rattle.rule.specs.Faults.{FirstFault, Reads}
+use Rattle.rule.specs.Reading.{TooMany}
 use Rattle.rule.specs.Meaning.{ProgramAccepts}
 use Rattle.compiler.specs.Construction.{construct}
+use Rattle.compiler.specs.declared.Answer.{Answer}
+use Rattle.compiler.specs.declared.Answer.the-variants as Answer
 
 -- the bytes of image buffer that document 01 asks for, enough for the longest image
 abbrev pub imageRoom : ℕ
 imageRoom = 8246
-
--- a whole program without faults, of whose table there is more than the most that may be: of states, or of rows
-pub record TooMany (text : List ℕ) (size : Table → ℕ) (most place : ℕ) : Type 0 where
-  pub program : Program
-  pub reads : Reads text program
-  pub over : most < size (construct program)
-  pub atEnd : place ≡ length text
 
 -- the reasons to refuse, in order: 1, then 2, then whichever of 3 to 9 comes first in the text, then 10, then 11
 abbrev pub reasons : List ℕ → List ℕ → List {1} Reason
@@ -30,8 +25,8 @@ reasons text image =
     atZero 1 (4096 < length text)
     ∷ atZero 2 (length image < imageRoom)
     ∷ FirstFault text
-    ∷ because 10 (TooMany text (λ t. t .states) 128)
-    ∷ because 11 (TooMany text (λ t. length (t .rows)) 1024)
+    ∷ because 10 (TooMany text (λ p. construct p .states) 128)
+    ∷ because 11 (TooMany text (λ p. length (construct p .rows)) 1024)
     ∷ []
 
 -- what is compiled: a text that the grammar derives and whose limits hold
@@ -48,16 +43,10 @@ Agree p =
     → ((i : ℕ) → i < length word → List·Memᴰ (getD word i 0) (construct p .alphabet))
     → Accepts (construct p) word limit ↔ ProgramAccepts p word limit
 
-pub data Answer : Type 0 where
-  -- the image's length, the states and the rows
-  compiled : ℕ → ℕ → ℕ → Answer
-  -- a number and its place
-  refused : ℕ → ℕ → Answer
-
 -- the answer as one number, for C
 unfoldable pub answerNumber : Answer → ℕ
-answerNumber (compiled bytes states rows) = bytes
-answerNumber (refused number place) = refusal number place
+answerNumber (Answer.Compiled bytes states rows) = bytes
+answerNumber (Answer.Refused number place) = refusal number place
 
 pub record Compiled (text before after : List ℕ) (bytes states rows : ℕ) : Type 0 where
   pub program : Program
@@ -73,9 +62,10 @@ pub record Refused (text before after : List ℕ) (number place : ℕ) : Type 0 
   pub first : First (reasons text before) number place
   pub unchanged : after ≡ before
 
+-- what each case says: the image's length, the states and the rows; or a number and its place
 abbrev pub AnswerRight : List ℕ → List ℕ → List ℕ → Answer → Type 0
-AnswerRight text before after (compiled bytes states rows) = Compiled text before after bytes states rows
-AnswerRight text before after (refused number place) = Refused text before after number place
+AnswerRight text before after (Answer.Compiled bytes states rows) = Compiled text before after bytes states rows
+AnswerRight text before after (Answer.Refused number place) = Refused text before after number place
 
 pub record Compiles (text before after : List ℕ) (answer : Answer) : Type 0 where
   pub right : AnswerRight text before after answer

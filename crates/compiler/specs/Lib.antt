@@ -7,3 +7,4 @@ pub mod Operators
 pub mod Writing
 pub mod Emission
 pub mod Atoms
+pub mod Setting

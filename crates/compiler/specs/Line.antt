@@ -4,7 +4,8 @@ use mathlib.Core.Bool.{true, false}
 use mathlib.Core.List.{List, [], _∷_, _++_}
 use lib.Dec.{ltb}
 use Rattle.bits.specs.Byte.{spelling}
-use Rattle.compiler.specs.Compile.{Answer, compiled, refused}
+use Rattle.compiler.specs.declared.Answer.{Answer}
+use Rattle.compiler.specs.declared.Answer.the-variants.{Compiled, Refused}
 
 -- the last digits of a number, at most so many and no leading zero, before what follows
 unfoldable pub digits : ℕ → ℕ → List ℕ → List ℕ
@@ -17,7 +18,7 @@ abbrev pub decimal : ℕ → List ℕ
 decimal n = digits 20 n []
 
 unfoldable pub line : Answer → List ℕ
-line (compiled bytes states rows) =
+line (Compiled bytes states rows) =
     spelling "ok " ++ (decimal states ++ (spelling " " ++ (decimal rows ++ (spelling " " ++ (decimal bytes ++ spelling "\n")))))
-line (refused number place) =
+line (Refused number place) =
     spelling "no " ++ (decimal number ++ (spelling " " ++ (decimal place ++ spelling "\n")))

@@ -5,7 +5,7 @@ use mathlib.Core.Path.{_≡_, refl, sym, ap, _∙_, subst}
 use mathlib.Core.Logic.{inl, inr}
 use mathlib.Core.List.{List, [], _∷_}
 use lib.ListN.{length}
-use Rattle.table.specs.Refusal.{First}
+use Rattle.table.specs.Refusal.{because, First}
 use Rattle.table.proofs.Refusal.{Single, Gives, Each, single-because, single-at-zero, first-once, first-has}
 use Rattle.rule.specs.Tree.{Program}
 use Rattle.rule.specs.Counts.{programStates, programRows}
@@ -68,33 +68,39 @@ module _ (text : List ℕ) where
                 };
           }
 
-  -- each reason gives one number and one place
-  single-reasons : Each Single (reasons text)
-  single-reasons = (
-    single-at-zero,
+  -- the reasons that lie in the text, whatever its states and rows are counted by: each gives one number and one place
+  pub single-text : (states rows : Program → ℕ)
+      → Each Single (FirstFault text ∷ because 10 (TooMany text states 128) ∷ because 11 (TooMany text rows 1024) ∷ [])
+  single-text states rows = (
+    record {
+      number = λ f g. first-fault-once f g .0;
+      place = λ f g. first-fault-once f g .1;
+    },
+    (single-because (λ p q f g. f .atEnd ∙ sym (g .atEnd)), (single-because (λ p q f g. f .atEnd ∙ sym (g .atEnd)), tt)),
+  )
+
+  -- and none of them holds of a program with few states and rows
+  pub no-text : {x : Program} (states rows : Program → ℕ)
+      → Reads text x
+      → states x ≤ 128
+      → rows x ≤ 1024
+      → Each (Gives (λ n p. ⊥)) (FirstFault text ∷ because 10 (TooMany text states 128) ∷ because 11 (TooMany text rows 1024) ∷ [])
+  no-text states rows reads fewStates fewRows = (
+    λ n p h. reads-no-fault reads h,
     (
-      record {
-        number = λ f g. first-fault-once f g .0;
-        place = λ f g. first-fault-once f g .1;
-      },
-      (single-because (λ p q f g. f .atEnd ∙ sym (g .atEnd)), (single-because (λ p q f g. f .atEnd ∙ sym (g .atEnd)), tt)),
+      λ n p h. omega (arith, h .1 .over, fewStates, ap states (reads-once reads (h .1 .reads))),
+      (λ n p h. omega (arith, h .1 .over, fewRows, ap rows (reads-once reads (h .1 .reads))), tt),
     ),
   )
+
+  single-reasons : Each Single (reasons text)
+  single-reasons = (single-at-zero, single-text programStates programRows)
 
   -- none holds of a text that is taken
   no-reason : {a b : ℕ} → Whole text a b → Each (Gives (λ n p. ⊥)) (reasons text)
   no-reason w = (
     λ n p h. omega (arith, h .1 .1, w .short),
-    (
-      λ n p h. reads-no-fault (w .reads) h,
-      (
-        λ n p h. omega (arith, h .1 .over, w .statesAre, w .fewStates, ap programStates (reads-once (w .reads) (h .1 .reads))),
-        (
-          λ n p h. omega (arith, h .1 .over, w .rowsAre, w .fewRows, ap programRows (reads-once (w .reads) (h .1 .reads))),
-          tt,
-        ),
-      ),
-    ),
+    no-text programStates programRows (w .reads) (omega (arith, w .statesAre, w .fewStates)) (omega (arith, w .rowsAre, w .fewRows)),
   )
 
   whole-once : {a b c d : ℕ} → Whole text a b → Whole text c d → Taken a b ≡ Taken c d

@@ -1,0 +1,22 @@
+-- Assumes nothing.
+use borrow.Author.Needs.{needs}
+use Rattle.compiler.proofs.Emission.{ready}
+use Rattle.compiler.proofs.Setting.{whole-image}
+use Rattle.compiler.proofs.emit.emit.Statement.{statement}
+use Rattle.compiler.proofs.emit.emit.Tie as tie
+
+begin-requires : tie.Need-begin-requires
+begin-requires c κs = search needs
+
+rest-requires : tie.Need-rest-requires
+rest-requires c κs = ready (c .before .before .before .begin .ensures .begins (c .before .before .before .before .before .before .before .pre .fits) .doing)
+
+same-length : tie.Need-same-length
+same-length c = search needs
+
+returns : tie.Need-returns
+returns c =
+    record { images = λ fits. whole-image fits (c .before .before .before .before .before .before .begin .ensures .begins fits) (c .before .before .rest .ensures) }
+
+pub emit-spec : {M : Type 1} → statement M
+emit-spec = tie.close (tie.spec begin-requires rest-requires same-length returns)

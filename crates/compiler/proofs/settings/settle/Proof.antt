@@ -1,0 +1,89 @@
+-- Which word comes first says in which order the settings stand. Assumes nothing.
+use borrow.Author.Needs.{needs}
+use Rattle.compiler.proofs.Setting.{letters-first, letters-last, settled-first, settled-last}
+use Rattle.compiler.proofs.settings.settle.Statement.{statement}
+use Rattle.compiler.proofs.settings.settle.Tie as tie
+
+see-requires : tie.Need-see-requires
+see-requires c κs = search needs
+
+enum-told : tie.Need-enum-told
+enum-told c = search needs
+
+past-requires : tie.Need-past-requires
+past-requires c κs = search needs
+
+letters-requires : tie.Need-letters-requires
+letters-requires c κs =
+    let f = letters-first (c .before .before .before .before .see .ensures) (c .before .before .enum-told .given .1) (c .past .ensures) (c .before .before .before .before .before .before .before .pre .stand) in
+    record { ts = _; us = _; l = _; stand = f .stand }
+
+past-requires-2 : tie.Need-past-requires-2
+past-requires-2 c κs = search needs
+
+past-requires-3 : tie.Need-past-requires-3
+past-requires-3 c κs = search needs
+
+truth-requires : tie.Need-truth-requires
+truth-requires c κs = search needs
+
+past-requires-4 : tie.Need-past-requires-4
+past-requires-4 c κs = search needs
+
+letters-requires-2 : tie.Need-letters-requires-2
+letters-requires-2 c κs =
+    let f = letters-last (c .before .before .before .see .ensures) (c .before .before .match .keys2) (c .past4 .ensures) (c .before .before .before .before .before .before .pre .stand) in
+    record { ts = _; us = _; l = _; stand = f .stand }
+
+past-requires-5 : tie.Need-past-requires-5
+past-requires-5 c κs = search needs
+
+truth-requires-2 : tie.Need-truth-requires-2
+truth-requires-2 c κs = search needs
+
+same-length : tie.Need-same-length
+same-length c = search needs
+
+returns : tie.Need-returns
+returns c =
+    let lists = c .before .before .before .before .before .letters .ensures in
+    let sees = c .before .before .before .before .before .before .before .before .before .before .see .ensures in
+    let first = c .before .before .before .before .before .before .before .before .enum-told .given .1 in
+    record {
+      settles = λ a.
+          settled-first lists (letters-first sees first (c .before .before .before .before .before .before .past .ensures) a) (c .before .before .past2 .ensures) (c .before .past3 .ensures)
+          (c .truth .ensures);
+    }
+
+same-length-2 : tie.Need-same-length-2
+same-length-2 c = search needs
+
+returns-2 : tie.Need-returns-2
+returns-2 c =
+    let lists = c .before .before .before .before .letters2 .ensures in
+    let sees = c .before .before .before .before .before .before .before .before .see .ensures in
+    let other = c .before .before .before .before .before .before .before .match .keys2 in
+    record {
+      settles = λ a.
+          settled-last lists (letters-last sees other (c .before .before .before .before .before .past4 .ensures) a) (c .before .past5 .ensures) (c .truth2 .ensures);
+    }
+
+pub settle-spec : {M : Type 1} → statement M
+settle-spec =
+    tie.close
+    (tie.spec
+    see-requires
+    enum-told
+    past-requires
+    letters-requires
+    past-requires-2
+    past-requires-3
+    truth-requires
+    past-requires-4
+    letters-requires-2
+    past-requires-5
+    truth-requires-2
+    same-length
+    returns
+    same-length-2
+    returns-2)
