@@ -82,10 +82,10 @@ fn letters_at(text: &[u8], at: usize, counts: Counts) -> Settings
     ensures { λ r. ⌜ AnswersWith (now (text .entry)) (spot at (letters ∷ []) (totals [] counts)) [] r ⌝ }
 {
     let mut from = at;
-    let mut same = counts;
+    let mut counts = counts;
     let mut letters = Letters::none();
     loop {
-        let more = letter_at(text, from, same, letters);
+        let more = letter_at(text, from, counts, letters);
         let read = more.read;
         let Read::Went {
             at: next,
@@ -94,7 +94,7 @@ fn letters_at(text: &[u8], at: usize, counts: Counts) -> Settings
         else {
             return more;
         };
-        same = counted;
+        counts = counted;
         letters = more.letters;
         let token = token_at(text, next);
         let Token::Sign { at: _, end, sign } = token else {
@@ -103,10 +103,7 @@ fn letters_at(text: &[u8], at: usize, counts: Counts) -> Settings
         match sign {
             Sign::CloseBracket => {
                 return Settings {
-                    read: Read::Went {
-                        at: end,
-                        counts: same,
-                    },
+                    read: Read::Went { at: end, counts },
                     letters,
                 };
             }

@@ -15,16 +15,16 @@ use Rattle.rule.proofs.settings.letters_at.Statement.{statement}
 use Rattle.rule.proofs.settings.letters_at.Tie as tie
 
 abbrev Inv-loop : tie.InvT-loop
-Inv-loop text at from₀ same₀ letters₀ from same letters =
+Inv-loop text at from₀ counts₀ letters₀ from counts letters =
     Comes
     text
-    (spot from₀ (Machine.letters ∷ []) (totals [] same₀))
-    (spot from (Machine.letters ∷ []) (totals (alphabetOf letters) same))
-    × Ready text from same
+    (spot from₀ (Machine.letters ∷ []) (totals [] counts₀))
+    (spot from (Machine.letters ∷ []) (totals (alphabetOf letters) counts))
+    × Ready text from counts
     × Sized letters
 
 abbrev μ-loop : tie.MeasureT-loop
-μ-loop text at from₀ same₀ letters₀ from same letters = length text - from
+μ-loop text at from₀ counts₀ letters₀ from counts letters = length text - from
 
 none-requires : tie.Need-none-requires Inv-loop μ-loop
 none-requires c κs = search needs
