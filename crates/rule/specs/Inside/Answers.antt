@@ -112,6 +112,10 @@ pub record AnswersWith (text : List ℕ) (s : Spot) (x : Stack) (r : Settings) :
   pub answers : Answers text s x (alphabetOf (r .letters)) (r .read)
   pub sized : Sized (r .letters)
 
+-- a token refused, behind these letters
+abbrev pub refusedWith : Token → Letters → Settings
+refusedWith t l = record { read = Refused (refusalOf t); letters = l }
+
 -- an answer as what comes of a text
 abbrev pub outcomeOf : Read → Outcome
 outcomeOf (Went to counts) = taken (counts .states) (counts .rows)
