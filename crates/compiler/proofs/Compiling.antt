@@ -16,6 +16,7 @@ use Rattle.rule.specs.Reading.{TooMany, reasons as readingReasons, Whole, Reads
 use Rattle.rule.specs.declared.Reading.the-variants as Reading
 use Rattle.rule.proofs.Within.{program-within, length-letterBytes}
 use Rattle.rule.proofs.Outcomes.{reads-once}
+use Rattle.rule.proofs.Bounds.{fault-bounds}
 use Rattle.rule.proofs.Promise.{single-text, no-text}
 use Rattle.compiler.specs.Construction.{programPart, construct}
 use Rattle.compiler.specs.Compile.{imageRoom, reasons, answerNumber, Compiled, Refused, Compiles, CompilesTo}
@@ -194,3 +195,37 @@ compiled-bytes a =
       omega (arith, a .bytesAre, long, sixteen, letters, program-letter (reads .derived)),
       omega (arith, a .bytesAre, long, sixteen, program-within p (reads .faultless) .few, a .compilable .rows),
     )
+
+-- a refusal's number is 1 to 11, and its place is in a text that is not too long, or at its end
+abbrev Bounded : ℕ → ℕ → Type 0
+Bounded n p = (1 ≤ n) × (n ≤ 11) × (p ≤ 4096)
+
+later-bounds : (text before : List ℕ) → ¬ (4096 < length text) → Each (Gives Bounded) (drop 1 (reasons text before))
+later-bounds text before short = (
+  λ n p h. (omega (arith, h .0), omega (arith, h .0), omega (arith, h .1 .0)),
+  (
+    λ n p h. let b = fault-bounds h in (omega (arith, b), omega (arith, b), omega (arith, b)),
+    (
+      λ n p h. (omega (arith, h .0), omega (arith, h .0), omega (arith, h .1 .atEnd)),
+      (λ n p h. (omega (arith, h .0), omega (arith, h .0), omega (arith, h .1 .atEnd)), tt),
+    ),
+  ),
+)
+
+first-bounds : (text before : List ℕ) (n p : ℕ) → First (reasons text before) n p → Bounded n p
+unfolding First
+first-bounds text before n p (inl h) = (omega (arith, h .0), omega (arith, h .0), omega (arith, h .1 .0))
+first-bounds text before n p (inr (short, later)) =
+    first-has Bounded (drop 1 (reasons text before)) (later-bounds text before (λ h. short 1 0 (refl, (refl, h)))) later
+
+pub refused-bounds : {text before after : List ℕ} {n p : ℕ} → Refused text before after n p → (1 ≤ n) × (n ≤ 11) × (p ≤ 4096)
+refused-bounds {text} {before} {n = n} {p = p} a = first-bounds text before n p (a .first)
+
+-- so compiling never gives 0
+answer-never-zero : {text before after : List ℕ} (x : Answer) → Compiles text before after x → 1 ≤ answerNumber x
+unfolding answerNumber
+answer-never-zero (Answer.Compiled k s r) a = omega (arith, compiled-bytes (a .right))
+answer-never-zero (Answer.Refused n p) a = omega (arith, refused-bounds (a .right))
+
+pub compiles-to-never-zero : {text before after : List ℕ} {r : ℕ} → CompilesTo text before after r → 1 ≤ r
+compiles-to-never-zero a = rw (a .number) (answer-never-zero (a .answer) (a .compiles))

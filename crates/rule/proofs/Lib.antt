@@ -10,6 +10,7 @@ pub mod Places
 pub mod Viable
 pub mod Trace
 pub mod Outcomes
+pub mod Bounds
 -- trees without faults
 pub mod Invert
 pub mod Within

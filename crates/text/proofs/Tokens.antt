@@ -2,7 +2,7 @@
 use Prim.Native.Nat.{ℕ, zero, suc, pred, _+_, _<_, zero-le, suc-le-suc}
 use native.Mathlib.Omega.{arith}
 use mathlib.Core.Path.{_≡_, refl, sym, ap, _∙_, subst}
-use mathlib.Core.List.{List, [], _∷_, cons≢nil}
+use mathlib.Core.List.{List, [], _∷_, _++_, cons≢nil}
 use lib.ListN.{length, drop, length-append, length-drop}
 use lib.Seq.{length-take-le}
 use Rattle.text.specs.Token.{Token}
@@ -124,3 +124,24 @@ ends-at h = omega (arith, ends-from h)
 -- tokens that break off do so at a byte of the text
 pub broken-at : {text : List ℕ} {ts : List Placed} {p : ℕ} → TokensOf text ts (broken p) → p < length text
 broken-at h = omega (arith, ends-from h)
+
+-- each of these tokens starts before this place
+abbrev pub Below : ℕ → List Placed → Type 0
+Below n [] = Unit {0}
+Below n ((t at p) ∷ ts) = (p < n) × Below n ts
+
+-- so it is of the tokens of bytes, counted from any place
+pub tokens-below : {place : ℕ} {bytes : List ℕ} {ts : List Placed} {e : Ending} → Tokens place bytes ts e → Below (place + length bytes) ts
+tokens-below end = tt
+tokens-below (blank {p = p} {n = n} {bytes = bytes} {rest = rest} {ts = ts} b g) =
+    let same : p + n + length rest ≡ p + length bytes = omega (arith, blank-length b) in
+    subst (λ (m : ℕ). Below m ts) same (tokens-below g)
+tokens-below (token {p = p} {bytes = bytes} {lexeme = lexeme} {rest = rest} {ts = ts} l g) =
+    let same : p + length lexeme + length rest ≡ p + length bytes = omega (arith, longest-length l) in
+    (omega (arith, found-some (longest-found l .0)), subst (λ (m : ℕ). Below m ts) same (tokens-below g))
+tokens-below (none x y) = tt
+
+-- each in particular
+pub below-at : {n p : ℕ} (ts : List Placed) (t : Token) (us : List Placed) → Below n (ts ++ ((t at p) ∷ us)) → p < n
+below-at [] t us b = b .0
+below-at ((u at q) ∷ ts) t us b = below-at ts t us (b .1)

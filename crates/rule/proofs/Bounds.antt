@@ -1,0 +1,194 @@
+-- A first fault's number is 3 to 9, and its place is in the text or at its end.
+use Prim.Native.Nat.{ℕ, suc, _≤_}
+use native.Mathlib.Omega.{arith}
+use mathlib.Core.Path.{refl, sym, subst}
+use mathlib.Core.Logic.{⊎-elim}
+use mathlib.Core.Bool.{Bool, true, false, not, _&&_, _||_}
+use mathlib.Core.List.{
+  List,
+  [],
+  _∷_,
+  _++_,
+  List·Memᴰ,
+  List·Memᴰ·head,
+  List·Memᴰ·not-nil,
+  List·Memᴰ·append-cases,
+  List·Memᴰ·eq-of-singleton,
+}
+use lib.ListN.{length}
+use lib.Dec.{leb}
+use Rattle.text.proofs.Tokens.{ends-at, broken-at, tokens-below, below-at}
+use Rattle.rule.specs.Tree.{
+  Number,
+  Letter,
+  Sought,
+  letter,
+  lend,
+  rend,
+  Atom,
+  readIs,
+  readIsNot,
+  counterIs,
+  counterIsNot,
+  Condition,
+  atom,
+  parens,
+  negation,
+  both,
+  either,
+  Plain,
+  moveBy,
+  moveBack,
+  gotoLend,
+  gotoRend,
+  increment,
+  decrement,
+  add,
+  subtract,
+  Statement,
+  plain,
+  accept,
+  reject,
+  if,
+  ifElse,
+  while,
+  choose,
+  branch,
+  Statements,
+  done,
+  _then_,
+  Arms,
+  lastArm,
+  moreArms,
+  Program,
+  letterBytes,
+}
+use Rattle.rule.specs.Limits.{
+  Fault,
+  faultIf,
+  isIn,
+  letterFaults,
+  value,
+  inForm,
+  numberFaults,
+  soughtFaults,
+  atomFaults,
+  tooDeep,
+  conditionFaults,
+  plainFaults,
+  statementFaults,
+  statementsFaults,
+  armsFaults,
+  faults,
+}
+use Rattle.rule.specs.Faults.{FirstFault, noToken, notHere, early, limit}
+
+-- faults of the limits have numbers 5 to 9
+record Numbered (fs : List Fault) : Type 0 where
+  pub number : (f : Fault) → List·Memᴰ f fs → (5 ≤ f .number) × (f .number ≤ 9)
+
+no-fault : Numbered []
+no-fault = record { number = λ f m. absurd (List·Memᴰ·not-nil m) }
+
+join : {fs gs : List Fault} → Numbered fs → Numbered gs → Numbered (fs ++ gs)
+join {fs} a b = record { number = λ f m. ⊎-elim (a .number f) (b .number f) (List·Memᴰ·append-cases fs m) }
+
+fault-if : (b : Bool) (n p : ℕ) → 5 ≤ n → n ≤ 9 → Numbered (faultIf b n p)
+fault-if true n p low high =
+    record {
+      number = λ f m.
+          subst (λ (g : Fault). (5 ≤ g .number) × (g .number ≤ 9)) (sym (List·Memᴰ·eq-of-singleton m)) (low, high);
+    }
+fault-if false n p low high = no-fault
+
+letters-numbered : (ls : List Letter) (before : List ℕ) → Numbered (letterFaults before ls)
+unfolding letterFaults
+letters-numbered [] before = no-fault
+letters-numbered (l ∷ ls) before = join (fault-if (isIn (l .byte) before || leb 16 (length before)) 5 (l .place) (omega arith) (omega arith)) (letters-numbered ls (before ++ (l .byte ∷ [])))
+
+number-numbered : (greatest : ℕ) (n : Number) → Numbered (numberFaults greatest n)
+unfolding numberFaults
+number-numbered greatest n = fault-if (not (inForm (n .digits) && leb (value n) greatest)) 7 (n .place) (omega arith) (omega arith)
+
+deep : (opened o : ℕ) → Numbered (tooDeep opened o)
+deep opened o = fault-if (leb 16 opened) 8 o (omega arith) (omega arith)
+
+sought-numbered : (alphabet : List ℕ) (x : Sought) → Numbered (soughtFaults alphabet x)
+unfolding soughtFaults
+sought-numbered alphabet (letter l) = fault-if (not (isIn (l .byte) alphabet)) 6 (l .place) (omega arith) (omega arith)
+sought-numbered alphabet lend = no-fault
+sought-numbered alphabet rend = no-fault
+
+atom-numbered : (alphabet : List ℕ) (a : Atom) → Numbered (atomFaults alphabet a)
+unfolding atomFaults
+atom-numbered alphabet (readIs x) = sought-numbered alphabet x
+atom-numbered alphabet (readIsNot x) = sought-numbered alphabet x
+atom-numbered alphabet (counterIs n) = number-numbered 0 n
+atom-numbered alphabet (counterIsNot n) = number-numbered 0 n
+
+condition-numbered : (alphabet : List ℕ) (opened : ℕ) (c : Condition) → Numbered (conditionFaults alphabet opened c)
+unfolding conditionFaults
+condition-numbered alphabet opened (atom a) = atom-numbered alphabet a
+condition-numbered alphabet opened (parens p c) = join (deep opened p) (condition-numbered alphabet (suc opened) c)
+condition-numbered alphabet opened (negation p c) = join (deep opened p) (condition-numbered alphabet (suc opened) c)
+condition-numbered alphabet opened (both c d) = join (condition-numbered alphabet opened c) (condition-numbered alphabet opened d)
+condition-numbered alphabet opened (either c d) = join (condition-numbered alphabet opened c) (condition-numbered alphabet opened d)
+
+plain-numbered : (e : Plain) → Numbered (plainFaults e)
+unfolding plainFaults
+plain-numbered (moveBy n) = number-numbered 63 n
+plain-numbered (moveBack n) = number-numbered 63 n
+plain-numbered gotoLend = no-fault
+plain-numbered gotoRend = no-fault
+plain-numbered increment = no-fault
+plain-numbered decrement = no-fault
+plain-numbered (add n) = number-numbered 31 n
+plain-numbered (subtract n) = number-numbered 31 n
+
+ninth : (arms p : ℕ) → Numbered (faultIf (leb 8 arms) 9 p)
+ninth arms p = fault-if (leb 8 arms) 9 p (omega arith) (omega arith)
+
+mutual
+  unfolding statementFaults statementsFaults armsFaults
+
+  statement-numbered : (s : Statement) (alphabet : List ℕ) (opened : ℕ) → Numbered (statementFaults alphabet opened s)
+  statement-numbered (plain e) alphabet opened = plain-numbered e
+  statement-numbered accept alphabet opened = no-fault
+  statement-numbered reject alphabet opened = no-fault
+  statement-numbered (if c o b) alphabet opened =
+      join (condition-numbered alphabet 0 c) (join (deep opened o) (statements-numbered b alphabet (suc opened)))
+  statement-numbered (ifElse c o b o′ b′) alphabet opened =
+      join (condition-numbered alphabet 0 c)
+      (join (deep opened o)
+      (join (statements-numbered b alphabet (suc opened))
+      (join (deep opened o′) (statements-numbered b′ alphabet (suc opened)))))
+  statement-numbered (while c o b) alphabet opened =
+      join (condition-numbered alphabet 0 c) (join (deep opened o) (statements-numbered b alphabet (suc opened)))
+  statement-numbered (choose o b) alphabet opened = join (deep opened o) (statements-numbered b alphabet (suc opened))
+  statement-numbered (branch o b a) alphabet opened =
+      join (deep opened o) (join (statements-numbered b alphabet (suc opened)) (arms-numbered a alphabet opened 1))
+
+  statements-numbered : (b : Statements) (alphabet : List ℕ) (opened : ℕ) → Numbered (statementsFaults alphabet opened b)
+  statements-numbered done alphabet opened = no-fault
+  statements-numbered (a then b) alphabet opened = join (statement-numbered a alphabet opened) (statements-numbered b alphabet opened)
+
+  arms-numbered : (a : Arms) (alphabet : List ℕ) (opened arms : ℕ) → Numbered (armsFaults alphabet opened arms a)
+  arms-numbered (lastArm p o b) alphabet opened arms =
+      join (ninth arms p) (join (deep opened o) (statements-numbered b alphabet (suc opened)))
+  arms-numbered (moreArms p o b a) alphabet opened arms =
+      join (ninth arms p)
+      (join (deep opened o) (join (statements-numbered b alphabet (suc opened)) (arms-numbered a alphabet opened (suc arms))))
+
+program-numbered : (p : Program) → Numbered (faults p)
+unfolding faults
+program-numbered p =
+    join (letters-numbered (p .alphabet) [])
+    (join (deep 0 (p .brace)) (statements-numbered (p .body) (letterBytes (p .alphabet)) 1))
+
+pub fault-bounds : {text : List ℕ} {n p : ℕ} → FirstFault text n p → (3 ≤ n) × (n ≤ 9) × (p ≤ length text)
+fault-bounds (noToken ts of clean) = (omega arith, omega arith, omega (arith, broken-at of))
+fault-bounds (notHere ts us t of clean dead) = (omega arith, omega arith, omega (arith, below-at ts t us (tokens-below of)))
+fault-bounds (early ts of clean dead) = (omega arith, omega arith, omega (arith, ends-at of))
+fault-bounds (limit {n = n} {p = p} ts us t of clean b) =
+    let is = program-numbered (b .goesOn .program) .number _ (subst (List·Memᴰ _) (sym (b .first)) (List·Memᴰ·head refl)) in
+    (omega (arith, is), omega (arith, is), omega (arith, below-at ts t us (tokens-below of)))
