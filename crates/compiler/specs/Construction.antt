@@ -1,7 +1,7 @@
 -- The construction: from a program to its table. States are numbered as taken, and rows stand in the order added.
 -- `next` is the next state to be taken; a statement starts at state `p`, and its exit is where the next one starts.
 use Prim.Native.Nat.{ℕ, zero, suc, _+_, _-_}
-use mathlib.Core.Bool.{Bool, true, false, not, cond}
+use mathlib.Core.Bool.{Bool, true, false, not}
 use mathlib.Core.List.{List, [], _∷_, _++_}
 use lib.ListN.{length, replicate}
 use lib.Dec.{eqb}

@@ -1,9 +1,9 @@
 -- By which production a statement is derived, and a condition's operand, where its first token is known.
 use Prim.Native.Nat.{ℕ}
 use mathlib.Core.Path.{_≡_, refl}
-use mathlib.Core.List.{List, [], _∷_}
+use mathlib.Core.List.{List, _∷_}
 use Rattle.text.specs.Token.{number, w, s}
-use Rattle.text.specs.Tokens.{Placed, _at_}
+use Rattle.text.specs.Tokens.{_at_}
 use Rattle.rule.specs.Tree as Tree
 use Rattle.rule.specs.Tree.{Condition, Plain, Statement, Statements, Arms}
 use Rattle.rule.specs.Grammar.{

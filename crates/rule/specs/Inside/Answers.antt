@@ -1,7 +1,7 @@
 -- What a reader answers, by what the machine does with the text from a byte on.
 use Prim.Native.Nat.{ℕ, _+_, _*_, _≤_, _<_}
 use mathlib.Core.Path.{_≡_}
-use mathlib.Core.List.{List, [], _∷_, _++_}
+use mathlib.Core.List.{List, _∷_, _++_}
 use lib.ListN.{length, take, drop}
 use Rattle.text.specs.Token as Spelt
 use Rattle.text.specs.Tokens.{Placed, _at_, Ending, Tokens}
