@@ -9,5 +9,6 @@ pub mod judge;
 pub mod random;
 pub mod rule;
 pub mod samples;
+pub mod stored;
 pub mod texts;
 pub mod tokens;

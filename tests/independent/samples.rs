@@ -86,6 +86,38 @@ pub fn judged() -> Vec<Judged> {
     ]
 }
 
+/// A rule, a word and a limit on which an error that a volunteer would make in building this shows, with the right verdict.
+pub struct Shows {
+    /// The error, in document 01's words.
+    pub error: &'static str,
+    pub text: String,
+    pub word: &'static str,
+    pub limit: usize,
+    pub verdict: Verdict,
+}
+
+/// Document 01's errors that a volunteer would make in building this.
+pub fn errors() -> Vec<Shows> {
+    let of = |error| move |body: &str, word, limit, verdict| Shows { error, text: format!("{H}{body}"), word, limit, verdict };
+    let another_letter = of("taking `read != 'a'` to mean another letter, so that a run dies on a mark");
+    let no_too_soon = of("saying no as soon as one run passes the limit, though another accepts");
+    let end_accepts = of("making an accepting state of the end of the program, so that an empty record passes");
+    vec![
+        another_letter("{if(read!='a'){accept;}}", "", 0, Verdict::Yes),
+        another_letter("{if(read!='a'){accept;}}", "a", 0, Verdict::Yes),
+        another_letter("{goto(rend);if(read!='a'){accept;}}", "aa", 0, Verdict::Yes),
+        another_letter("{move(1);if(read!='a'){accept;}}", "a", 0, Verdict::No),
+        no_too_soon("{branch{c++;}also{accept;}}", "", 0, Verdict::Yes),
+        no_too_soon("{branch{accept;}also{c++;}}", "", 0, Verdict::Yes),
+        no_too_soon("{while choose{c+=31;}accept;}", "a", 30, Verdict::Yes),
+        no_too_soon("{branch{c++;}also{}}", "", 0, Verdict::LimitMet),
+        end_accepts("{}", "", 0, Verdict::No),
+        end_accepts("{}", "a", 31, Verdict::No),
+        end_accepts("{c++;c--;}", "", 31, Verdict::No),
+        end_accepts("{while(read!=rend){move(1);}}", "aaa", 0, Verdict::No),
+    ]
+}
+
 #[cfg(test)]
 mod tests {
     use super::*;
@@ -165,17 +197,12 @@ mod tests {
         }
     }
 
-    /// Document 01's errors that a volunteer would make.
     #[test]
     fn errors_of_a_volunteer() {
-        // `read != 'a'` holds on a mark
-        let not_a = read(format!("{H}{{if(read!='a'){{accept;}}}}").as_bytes()).unwrap();
-        assert_eq!(interpret(&not_a, b"", 0), Verdict::Yes);
-        // one run passes the limit, another accepts
-        let both = read(format!("{H}{{branch{{c++;}}also{{accept;}}}}").as_bytes()).unwrap();
-        assert_eq!(interpret(&both, b"", 0), Verdict::Yes);
-        // the end of the program does not accept
-        let end = read(format!("{H}{{}}").as_bytes()).unwrap();
-        assert_eq!(interpret(&end, b"", 0), Verdict::No);
+        for shows in errors() {
+            let program = read(shows.text.as_bytes()).unwrap();
+            let verdict = interpret(&program, shows.word.as_bytes(), shows.limit);
+            assert_eq!(verdict, shows.verdict, "{}: {} on '{}'", shows.error, shows.text, shows.word);
+        }
     }
 }

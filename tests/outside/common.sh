@@ -37,3 +37,18 @@ archive() {
   fi
   echo "$lib"
 }
+
+# proved NAME: the path of a proved program, which is proved and linked first if a file has changed since. PROGRAMS=FOLDER takes
+# the programs there instead, to try a test itself.
+proved() {
+  local log=$out/check-$1.log bin=$root/target/bin/$1
+  if [ -n "${PROGRAMS:-}" ]; then
+    bin=$PROGRAMS/$1
+  elif [ ! -x "$bin" ] || [ -n "$(find crates crates.txt -newer "$bin" -print -quit)" ]; then
+    if ! rt check "$1" >"$log" 2>&1; then
+      tail -n 20 "$log" >&2
+      return 1
+    fi
+  fi
+  echo "$bin"
+}

@@ -16,10 +16,6 @@ pub bit-zero-or-one : (m : List ℕ) (i : ℕ) → bit m i < 2
 unfolding bit
 bit-zero-or-one m i = omega arith
 
--- so one that is not 1 is 0
-pub bit-not-one : (m : List ℕ) (i : ℕ) → ¬ (bit m i ≡ 1) → bit m i ≡ 0
-bit-not-one m i other = omega (arith, bit-zero-or-one m i)
-
 -- half a number has the bits after the first
 pub half-bits : (a j : ℕ) → a / 2 / 2 ^ j ≡ a / 2 ^ suc j
 half-bits a j = shr-shr a 1 j ∙ rw one-add

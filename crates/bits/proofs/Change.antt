@@ -150,7 +150,3 @@ module _ (m : List ℕ) where
   pub length-withoutBit : (i : ℕ) → length (withoutBit m i) ≡ length m
   unfolding withoutBit
   length-withoutBit i = simp length-set
-
-  pub bytes-withoutBit : (i : ℕ) → Bytes m → Bytes (withoutBit m i)
-  unfolding withoutBit
-  bytes-withoutBit i bytes = bytes-kept m (i / 8) _ bytes (omega (arith, bytes (i / 8)))

@@ -4,17 +4,17 @@ use native.Mathlib.Omega.{arith}
 use native.Mathlib.Nat.{add-zero}
 use native.Mathlib.Numerals.{add-one}
 use mathlib.Core.Path.{_≡_, refl, sym, _∙_, ap, subst}
-use mathlib.Core.Bool.{Bool, true, false, not}
+use mathlib.Core.Bool.{Bool, true, false}
 use mathlib.Core.List.{List, [], _∷_, _++_, append-nil, append-assoc}
 use lib.ListN.{length, getD, take, drop, length-append, List·getD-append, take-append-drop}
-use lib.Seq.{take-suc, drop-cons, getD-append-add, take-all}
+use lib.Seq.{take-suc, getD-append-add, take-all}
 use lib.Dec.{eqb}
 use borrow.Author.Tests.{eq-eqb, ne-eqb}
 use Rattle.table.specs.Table.{Row}
-use Rattle.compiler.specs.Construction.{testRow, eitherCounter, countUp, allSymbols, without, symbolRows}
-use Rattle.compiler.specs.Writing.{Sheet, Holds, Filled, Room, Writes, Counts}
+use Rattle.construction.specs.Construction.{testRow, eitherCounter, countUp, allSymbols, without, symbolRows}
+use Rattle.compiler.specs.Writing.{Sheet, Filled, Room, Writes, Counts}
 use Rattle.compiler.specs.Atoms.{counterRows, readRows}
-use Rattle.compiler.proofs.Symbols.{length-countUp, length-symbols}
+use Rattle.construction.proofs.Symbols.{length-countUp, length-symbols}
 
 -- the symbols by their number
 countUp-at : (many n i : ℕ) → i < many → getD (countUp n many) i 0 ≡ n + i
@@ -87,10 +87,6 @@ without-same x y p q e = rw (eq-eqb y x e, symbolRows)
 pub without-other : (x y p q : ℕ) → (y ≡ x → ⊥) → symbolRows (without x (y ∷ [])) p q ≡ testRow y eitherCounter p q ∷ []
 unfolding without symbolRows
 without-other x y p q n = rw (ne-eqb y x n, symbolRows)
-
-pub one-symbol : (y p q : ℕ) → symbolRows (y ∷ []) p q ≡ testRow y eitherCounter p q ∷ []
-unfolding symbolRows
-one-symbol y p q = refl
 
 -- one symbol after another
 symbols-append : (x : ℕ) (l m : List ℕ) (p q : ℕ) → symbolRows (without x (l ++ m)) p q ≡ symbolRows (without x l) p q ++ symbolRows (without x m) p q

@@ -1,12 +1,11 @@
 -- What is seen of an atom's tokens.
-use Prim.Native.Nat.{ℕ, _+_, _≤_, _<_}
+use Prim.Native.Nat.{ℕ, _≤_, _<_}
 use native.Mathlib.Omega.{arith}
 use mathlib.Core.Path.{_≡_, refl, sym, _∙_, ap, subst}
 use mathlib.Core.Bool.{Bool, true, false, not}
 use mathlib.Core.List.{List, [], _∷_}
 use lib.ListN.{length, drop}
 use types.Run.{OneOf, miss}
-use Rattle.text.specs.Token.{w, s}
 use Rattle.text.specs.Tokens.{_at_}
 use Rattle.text.specs.declared.Word.{Word}
 use Rattle.text.specs.declared.Word.the-variants as Word
@@ -15,7 +14,7 @@ use Rattle.text.specs.declared.Sign.the-variants as Sign
 use Rattle.rule.specs.Tree.{Sought, letter, Atom}
 use Rattle.rule.specs.Tree as Tree
 use Rattle.rule.specs.Grammar.{Ts, IsSought, aLetter, lend, rend, IsAtom, readIs, readIsNot, counterIs, counterIsNot}
-use Rattle.compiler.specs.Construction.{indexIn, symbolCode, atomRows}
+use Rattle.construction.specs.Construction.{indexIn, symbolCode, atomRows}
 use Rattle.compiler.specs.Seeing as Seen
 use Rattle.compiler.specs.Seeing.{Here, SeenAs}
 use Rattle.compiler.specs.Atoms.{counterRows, readRows, Compares}

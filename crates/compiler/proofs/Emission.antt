@@ -1,14 +1,14 @@
 -- Laws of the emitter's places: room for rows that are to come, rows that are written, and places that are put together anew.
-use Prim.Native.Nat.{ℕ, suc, _+_, _≤_, _<_}
+use Prim.Native.Nat.{ℕ, _+_, _≤_, _<_}
 use native.Mathlib.Omega.{arith}
-use mathlib.Core.Path.{_≡_, refl, sym, _∙_, ap, subst, subst₂}
-use mathlib.Core.List.{List, [], _∷_, _++_, append-nil, append-assoc}
+use mathlib.Core.Path.{_≡_, sym, subst}
+use mathlib.Core.List.{List, _∷_, _++_, append-nil}
 use lib.ListN.{length, length-append}
 use Rattle.text.specs.Tokens.{Placed}
 use Rattle.table.specs.Table.{Row}
 use Rattle.rule.specs.Grammar.{Ts}
-use Rattle.compiler.specs.Construction.{Part}
-use Rattle.compiler.specs.Writing.{Sheet, Holds, Held, Filled, Room, Writes}
+use Rattle.construction.specs.Construction.{Part}
+use Rattle.compiler.specs.Writing.{Sheet, Held, Filled, Room, Writes}
 use Rattle.compiler.specs.Seeing.{Here, Reaches, Passes}
 use Rattle.compiler.specs.Emission.{At, Task, Doing, Ready, Emitted, rowsPart}
 use Rattle.compiler.specs.declared.Place.{Place}
@@ -38,10 +38,6 @@ module _ {text out : List ℕ} {place : Place} {h : Sheet} {accepting : List ℕ
   at-rows {after} {end} xs ys same fits w =
       subst (λ (zs : List Row). Filled h accepting (rows ++ zs) after end) same
       (w .writes (stands .filled) (subst (λ (zs : List Row). length rows + length zs ≤ h .count) (sym same) fits))
-
-  -- the same with other words for what is written
-  pub at-same : {accepting′ : List ℕ} {rows′ : List Row} → accepting ≡ accepting′ → rows ≡ rows′ → At text out place h accepting′ rows′ p next ts
-  at-same e f = subst₂ (λ (a : List ℕ) (r : List Row). At text out place h a r p next ts) e f stands
 
 -- of two lists that fit, the first fits, and then the second
 pub fits-first : {A : Type 0} (xs ys zs : List A) {n : ℕ} → length xs + length (ys ++ zs) ≤ n → length xs + length ys ≤ n

@@ -1,20 +1,20 @@
 -- What is seen of a text's tokens, by what comes first; a place behind some of them; the value of digits.
-use Prim.Native.Nat.{ℕ, zero, suc, _+_, _-_, _*_, _≤_, _<_}
+use Prim.Native.Nat.{ℕ, suc, _+_, _-_, _*_, _≤_, _<_}
 use native.Mathlib.Omega.{arith}
 use native.Mathlib.Numerals.{add-one}
 use native.Mathlib.Decide.{decLt}
 use mathlib.Core.Path.{_≡_, refl, sym, _∙_, ap, subst}
-use mathlib.Core.Bool.{Bool, true, false, not, _&&_}
+use mathlib.Core.Bool.{not}
 use mathlib.Core.List.{List, [], _∷_, cons≢nil}
-use lib.ListN.{length, getD, take, drop, length-drop}
-use lib.Seq.{drop-drop, drop-cons, take-all}
+use lib.ListN.{length, getD, take, drop}
+use lib.Seq.{drop-drop, drop-cons}
 use lib.Dec.{T, leb, leb→le, eqb, T-not}
 use Rattle.bits.specs.Byte.{isDigit, isLetter}
 use Rattle.bits.proofs.Tests.{and-left, and-right, and-of}
 use Rattle.text.specs.Token as Spec
 use Rattle.text.specs.Token.{word, number, letter, sign, every, Spells, aWord, aNumber, aLetter, aSign}
-use Rattle.text.specs.Tokens.{Placed, _at_, Ending, ends, broken, Tokens}
-use Rattle.text.specs.First.{reserved, name, IsNamed, IsWord, part, written, Next, Begins, First}
+use Rattle.text.specs.Tokens.{Placed, _at_, Ending}
+use Rattle.text.specs.First.{IsWord, part, written, Next, Begins, First}
 use Rattle.text.specs.declared.Token.{Token}
 use Rattle.text.specs.declared.Token.the-variants as Token
 use Rattle.text.specs.declared.Word.{Word}

@@ -5,7 +5,7 @@ use mathlib.Core.Path.{_≡_, refl, sym, _∙_, ap, subst}
 use mathlib.Core.List.{List, [], _∷_, _++_, append-nil}
 use lib.ListN.{length, drop}
 use types.Run.{OneOf, miss}
-use Rattle.text.specs.Token.{Token, number, w, s}
+use Rattle.text.specs.Token.{Token, number, w}
 use Rattle.text.specs.Tokens.{Placed, _at_}
 use Rattle.text.specs.First as First
 use Rattle.text.specs.declared.Word.{Word}
@@ -19,14 +19,14 @@ use Rattle.rule.specs.Tree.{Plain, Statement}
 use Rattle.rule.specs.Grammar.{Ts, IsStatement}
 use Rattle.rule.proofs.Invert.{PlainOf, Move, forward, back, Goto, toLend, toRend, Change, up, down, upBy, downBy, statement-move, statement-goto, statement-change}
 use Rattle.rule.proofs.Within.{PlainWithin, StatementWithin}
-use Rattle.compiler.specs.Construction.{moveCode, changeCode, Part, statementPart}
-use Rattle.compiler.specs.Writing.{Sheet, Filled, Room, Writes}
-use Rattle.compiler.specs.Seeing.{Here, Behind, SeenAs, Sees, Passes, Digits}
-use Rattle.compiler.specs.Emission.{At, Task, Doing, Emitted, Follows, aStatement, HeadedTask, headed, stepRow, Steps}
+use Rattle.construction.specs.Construction.{moveCode, changeCode, Part, statementPart}
+use Rattle.compiler.specs.Writing.{Sheet, Filled, Room}
+use Rattle.compiler.specs.Seeing.{Here, Sees, Passes, Digits}
+use Rattle.compiler.specs.Emission.{Task, Doing, Emitted, Follows, aStatement, HeadedTask, headed, stepRow, Steps}
 use Rattle.compiler.specs.declared.Place.{Place}
 use Rattle.compiler.specs.declared.see.Seen.{Seen}
 use Rattle.compiler.proofs.Tags.{wordTag, signTag, wordTags, signTags, none-of}
-use Rattle.compiler.proofs.Seeing.{seen-behind, seen-word, seen-sign, sign-at, NumberSeen, seen-number, seen-digits}
+use Rattle.compiler.proofs.Seeing.{seen-behind, seen-word, seen-sign, seen-number, seen-digits}
 use Rattle.compiler.proofs.Emission.{at-room, at-rows, emitted-as}
 
 -- a plain statement's part

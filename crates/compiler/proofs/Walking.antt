@@ -1,37 +1,37 @@
 -- The condition walker: an atom, what an operator joins, and a condition both ways.
-use Prim.Native.Nat.{ℕ, suc, _+_, _≤_, _<_}
+use Prim.Native.Nat.{ℕ, _+_, _≤_, _<_}
 use native.Mathlib.Omega.{arith}
 use native.Mathlib.Numerals.{add-one}
 use mathlib.Core.Path.{_≡_, refl, sym, _∙_, ap, subst, subst₂}
 use mathlib.Core.Bool.{Bool, true, false, not}
 use mathlib.Core.List.{List, [], _∷_, _++_, append-nil, append-assoc}
-use lib.ListN.{length, drop, length-append}
+use lib.ListN.{length}
 use lib.Dec.{T, eqb}
 use types.Run.{OneOf}
 use Rattle.text.specs.Token.{s}
 use Rattle.text.specs.Token.{sign as signed}
 use Rattle.text.specs.First.{written}
-use Rattle.text.specs.Tokens.{Placed, _at_}
+use Rattle.text.specs.Tokens.{_at_}
 use Rattle.text.specs.declared.Word.{Word}
 use Rattle.text.specs.declared.Word.the-variants as Word
 use Rattle.text.specs.declared.Sign.{Sign}
 use Rattle.text.specs.declared.Sign.the-variants as Sign
 use Rattle.table.specs.Table.{Row}
 use Rattle.rule.specs.Tree.{Atom, Condition}
-use Rattle.rule.specs.Grammar.{Ts, IsSought, IsAtom, readIs, readIsNot, counterIs, counterIsNot, Binding, loosest, tightest, IsCondition, atom, parens, negation, tighter, both, tight, either}
+use Rattle.rule.specs.Grammar.{Ts, IsAtom, readIs, readIsNot, counterIs, counterIsNot, Binding, loosest, tightest, IsCondition, atom, parens, negation, tighter, both, tight, either}
 use Rattle.rule.proofs.Within.{ConditionWithin}
-use Rattle.compiler.specs.Construction.{Part, symbolCode, atomRows, Added, walk, oneAfterOther, oneOrOther, test}
-use Rattle.compiler.specs.Writing.{Sheet, Held, Filled, Room, Writes}
+use Rattle.construction.specs.Construction.{Part, symbolCode, atomRows, Added, walk, oneAfterOther, oneOrOther, test}
+use Rattle.compiler.specs.Writing.{Sheet, Filled, Room, Writes}
 use Rattle.compiler.specs.Seeing.{Here, SeenAs, Sees, Passes}
 use Rattle.compiler.specs.Atoms.{counterRows, readRows, Codes, Compares}
-use Rattle.compiler.specs.Emission.{At, Task, Doing, Ready, Emitted, Emits, rowsPart, addedPart, AtomTask, anAtom, Closes, byParen, byOr, byAny, WalkTask, walks, joins, joined, takes, viaTo, viaFrom, viaNext, Goes, TestTask, tests}
+use Rattle.compiler.specs.Emission.{At, Doing, Ready, Emitted, Emits, rowsPart, addedPart, AtomTask, anAtom, Closes, byParen, byOr, byAny, WalkTask, walks, joins, joined, takes, viaTo, viaFrom, viaNext, Goes, TestTask, tests}
 use Rattle.compiler.specs.Operators.{ahead, Ahead}
 use Rattle.compiler.specs.declared.Place.{Place}
 use Rattle.compiler.specs.declared.walk.Course.{Course}
 use Rattle.compiler.specs.declared.see.Seen.{Seen}
-use Rattle.compiler.proofs.Parts.{leads-walk}
+use Rattle.construction.proofs.Parts.{leads-walk}
 use Rattle.compiler.proofs.Tags.{wordTag, signTag, wordTags, signTags, none-of}
-use Rattle.compiler.proofs.Operators.{operator, join, Operands, no-operator, one-operator}
+use Rattle.compiler.proofs.Operators.{operator, join, no-operator, one-operator}
 use Rattle.compiler.proofs.Seeing.{here-some, seen-sign, SignAt, sign-at}
 use Rattle.compiler.proofs.AtomTokens.{Compared, CounterAtom, counter-atom, ReadAtom, read-atom}
 use Rattle.compiler.proofs.Emission.{at-room, at-rows, at-moved, at-past, at-onward, emitted-as, emitted-past, rows-emitted, fits-first, fits-then}

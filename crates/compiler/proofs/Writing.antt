@@ -1,24 +1,23 @@
 -- The image while it is written: a row more at its place, an accept bit more, the header around the letters, and the whole.
 use Prim.Native.Nat.{ℕ, suc, _+_, _-_, _*_, _/_, _%_, _≤_, _<_}
 use native.Mathlib.Omega.{arith}
-use native.Mathlib.Nat.{div-eq-of-lt}
-use mathlib.Core.Path.{_≡_, refl, sym, _∙_, ap, subst}
+use mathlib.Core.Path.{_≡_, refl, sym, _∙_, ap}
 use mathlib.Core.Bool.{Bool, true, false}
 use mathlib.Core.List.{List, [], _∷_, _++_, append-assoc, append-nil}
-use lib.ListN.{length, getD, take, drop, set, replicate, length-append, length-drop, length-replicate, length-take, drop-of-length-le}
-use lib.Seq.{take-at, drop-at, drop-drop, drop-append-add, take-append-add, getD-append-add, set-append-left, length-take-le, take-all}
+use lib.ListN.{length, getD, take, drop, replicate, length-append, length-drop, length-replicate, length-take, drop-of-length-le}
+use lib.Seq.{take-at, drop-at, drop-drop, drop-append-add, length-take-le, take-all}
 use lib.Dec.{eqb}
 use borrow.Author.Tests.{eq-eqb, ne-eqb}
 use native.Mathlib.Decide.{ℕ-discrete}
 use Rattle.bytes.specs.Bytes.{slice, indexOf, indexAfter}
 use Rattle.bits.specs.Bit.{withBit}
-use Rattle.table.specs.Table.{Row, Table}
+use Rattle.table.specs.Table.{Row}
 use Rattle.table.specs.Image.{twoBytes, field, rowBytes, rowsBytes, flag, edition, encode}
 use Rattle.table.proofs.Image.{length-rows, length-field}
-use Rattle.compiler.specs.Construction.{withBits, indexIn}
+use Rattle.construction.specs.Construction.{withBits, indexIn}
 use Rattle.compiler.specs.Compile.{imageRoom}
-use Rattle.compiler.specs.Writing.{Sheet, front, acceptBytes, written, rowPlace, Holds, Held, over, Filled, Room, Writes, Marks, Heads, Counts}
-use Rattle.compiler.proofs.SetBit.{new, with-bit, length-withBits}
+use Rattle.compiler.specs.Writing.{Sheet, front, acceptBytes, written, rowPlace, Holds, over, Filled, Room, Writes, Marks, Heads, Counts}
+use Rattle.construction.proofs.SetBit.{new, length-withBits}
 
 regroup : (a b c d : List ℕ) → (a ++ (b ++ c)) ++ d ≡ a ++ (b ++ (c ++ d))
 regroup a b c d = simp append-assoc
@@ -121,10 +120,6 @@ writes-row {before} {after} {place} {end} r bytes same put e = record { writes =
 -- the image's first bytes, as far as the letters
 lead : Sheet → List ℕ
 lead h = field 1 (1 ∷ []) ++ field 2 (h .alphabet)
-
--- where a number is below 256 its high byte is 0
-high-none : (n : ℕ) → n ≤ 16 → n / 256 ≡ 0
-high-none n h = omega arith
 
 back : Sheet → List ℕ
 back h = field 3 (flag (h .stops) ∷ []) ++ (field 4 (twoBytes (h .states)) ++ (5 ∷ twoBytes 16))

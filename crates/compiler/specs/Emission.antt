@@ -5,7 +5,7 @@ use mathlib.Core.Bool.{Bool, true, false, not}
 use mathlib.Core.List.{List, [], _∷_, _++_}
 use lib.ListN.{length}
 use Rattle.text.specs.Token.{Token, w, s}
-use Rattle.text.specs.Tokens.{Placed, _at_}
+use Rattle.text.specs.Tokens.{_at_}
 use Rattle.table.specs.Table.{Row}
 use Rattle.rule.specs.Tree.{Atom, Condition, Statement, Statements, Arms}
 use Rattle.rule.specs.Grammar.{
@@ -22,7 +22,7 @@ use Rattle.rule.specs.Grammar.{
   IsStatements,
 }
 use Rattle.rule.proofs.Within.{AtomWithin, ConditionWithin, StatementWithin, StatementsWithin, ArmsWithin}
-use Rattle.compiler.specs.Construction.{
+use Rattle.construction.specs.Construction.{
   anySymbol,
   eitherCounter,
   free,

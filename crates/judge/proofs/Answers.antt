@@ -1,11 +1,11 @@
 -- The questions asked of the finished marks and of a byte of the word.
-use Prim.Native.Nat.{ℕ, _+_, _*_, _/_, _%_, _^_, _≤_, _<_}
+use Prim.Native.Nat.{ℕ, _+_, _*_, _/_, _≤_, _<_}
 use native.Mathlib.Nat.{zero-div}
 use native.Mathlib.Omega.{arith}
 use mathlib.Core.Path.{_≡_, refl, sym, _∙_, subst}
-use mathlib.Core.Bool.{Bool, true, false, true≢false}
+use mathlib.Core.Bool.{true, false, true≢false}
 use mathlib.Core.List.{List, List·Memᴰ}
-use lib.ListN.{length, getD, length-take, length-drop, drop}
+use lib.ListN.{length, length-take, length-drop, drop}
 use lib.Dec.{ltb}
 use borrow.Author.Tests.{ltb-true, ltb-false}
 use Rattle.bits.specs.Bit.{bit}
@@ -14,8 +14,7 @@ use Rattle.table.specs.WellFormed.{IsImage}
 use Rattle.table.specs.Fields.{lettersOf, letterOf, tableOf, Tells}
 use Rattle.table.proofs.Places.{place-of, member-at}
 use Rattle.table.proofs.Encoded.{image-tail}
-use Rattle.judge.specs.Marks.{markBytes}
-use Rattle.judge.specs.Search.{situations, situationOf, MarkedAccepts}
+use Rattle.judge.specs.Search.{situationOf, MarkedAccepts}
 use Rattle.judge.specs.Inner.{Quiet, FirstSet, AcceptsIn}
 
 -- an answer that is known

@@ -1,11 +1,11 @@
 -- What a search that is over has found: the marks, the verdict and the count.
-use Prim.Native.Nat.{ℕ, _+_, _*_, _/_, _%_, _≤_, _<_}
+use Prim.Native.Nat.{ℕ, _+_, _*_, _/_, _≤_, _<_}
 use native.Mathlib.Nat.{zero-div}
 use native.Mathlib.Omega.{arith}
-use mathlib.Core.Path.{_≡_, refl, sym, ap, _∙_, subst}
+use mathlib.Core.Path.{_≡_, refl, sym, _∙_, subst}
 use mathlib.Core.Bool.{Bool, true, false, true≢false}
 use mathlib.Core.List.{List}
-use lib.ListN.{length, getD, take, replicate, length-replicate}
+use lib.ListN.{length, take, replicate, length-replicate}
 use lib.Seq.{getD-take, length-take-le, take-all}
 use Rattle.bits.specs.Bit.{bit, Bytes}
 use Rattle.bits.specs.Size.{Size}
@@ -14,14 +14,14 @@ use Rattle.bits.proofs.Change.{bit-inside, bit-zeros}
 use Rattle.bits.proofs.Size.{size-numbered}
 use Rattle.table.specs.Table.{Accepting}
 use Rattle.table.proofs.RowList.{rows-number}
-use Rattle.table.specs.Fields.{tableOf, rowOf, rowCount, Tells}
+use Rattle.table.specs.Fields.{tableOf, rowOf, Tells}
 use Rattle.machine.specs.Step.{Situation, Takes, Step}
 use Rattle.machine.specs.Run.{Reach, begins, goes, Accepts, Passes}
 use Rattle.judge.specs.Verdict.{Verdict, Yes, No, LimitMet, verdictNumber, IsVerdict}
 use Rattle.judge.specs.Marks.{markBytes, firstHalf, HasMark, markOf, Marks}
-use Rattle.judge.specs.Search.{situations, situationOf, Followed, Searched, MarkedAccepts}
+use Rattle.judge.specs.Search.{situations, situationOf, Searched, MarkedAccepts}
 use Rattle.judge.specs.Inner.{verdictOf, Unmarked, Undecided, Decided}
-use Rattle.judge.proofs.Marks.{reached-has-mark, mark-below, mark-of, mark-at, marked}
+use Rattle.judge.proofs.Marks.{reached-has-mark, mark-below, mark-of, mark-at}
 use Rattle.judge.proofs.Counted.{size-along}
 
 module _ {image w : List ℕ} {L : ℕ} {m : List ℕ} {over : Bool} (found : Searched image w L m over) where

@@ -1,5 +1,5 @@
 -- Judging has one result: the number and the marks are settled by the image, the word, the limit and the marks before.
-use Prim.Native.Nat.{ℕ, _+_, _*_, _/_, _≤_, _<_}
+use Prim.Native.Nat.{ℕ, _/_, _≤_, _<_}
 use native.Mathlib.Nat.{le-refl, add-le-add, mul-le-mul}
 use native.Mathlib.Omega.{arith}
 use mathlib.Core.Path.{_≡_, sym, ap, ap₂, _∙_, subst}
@@ -44,14 +44,14 @@ all-letters : {t : Table} {image word marks : List ℕ} {limit p : ℕ} → Judg
 all-letters {p = p} j f = f .outside (same-letters (j .isImage) (f .isImage) (j .letters p (f .inside)))
 
 -- what is to be judged has no reason to be refused
-no-reason
+pub no-reason
     : (image word : List ℕ) (limit : ℕ) (before : List ℕ) {t : Table} → Judgeable t image word limit before
     → Each (Gives (λ n p. ⊥)) (reasons image word limit before)
 no-reason image word limit before {t} j =
     (λ n p r. r .1 .1 (t, j .isImage), (λ n p r. omega arith, (λ n p r. all-letters j (r .1), (λ n p r. omega arith, (λ n p r. r .1 .1 (j .room), tt)))))
 
 -- every reason to refuse gives a number from 21 on
-reasons-numbered : (image word : List ℕ) (limit : ℕ) (before : List ℕ) → Each (Gives (λ n p. 21 ≤ n)) (reasons image word limit before)
+pub reasons-numbered : (image word : List ℕ) (limit : ℕ) (before : List ℕ) → Each (Gives (λ n p. 21 ≤ n)) (reasons image word limit before)
 reasons-numbered image word limit before = omega arith
 
 module _ {image word : List ℕ} {limit : ℕ} {before after after′ : List ℕ} where

@@ -1,15 +1,14 @@
 -- What marking a situation does to the bits of both halves.
-use Prim.Native.Nat.{ℕ, _+_, _*_, _/_, _%_, _≤_, _<_}
+use Prim.Native.Nat.{ℕ, _+_, _<_}
 use native.Mathlib.Decide.{ℕ-discrete}
 use native.Mathlib.Omega.{arith}
 use mathlib.Core.Path.{_≡_, refl, sym, ap, _∙_, subst}
-use mathlib.Core.Logic.{_⊎_, inl, inr, ⊎-elim}
+use mathlib.Core.Logic.{_⊎_, inl, inr}
 use mathlib.Core.List.{List}
 use lib.ListN.{length}
 use borrow.Author.Tests.{eq-eqb, ne-eqb}
-use Rattle.bits.specs.Bit.{bit, withBit, withoutBit}
-use Rattle.bits.proofs.Bits.{bit-zero-or-one}
-use Rattle.bits.proofs.Change.{bit-set, bit-set-other, bit-set-kept, length-withBit, bit-cleared, bit-cleared-other, length-withoutBit}
+use Rattle.bits.specs.Bit.{bit, withBit}
+use Rattle.bits.proofs.Change.{bit-set, bit-set-other, bit-set-kept, length-withBit}
 use Rattle.judge.specs.Marks.{markBytes}
 use Rattle.judge.specs.Search.{situations, marked, Followed}
 

@@ -3,7 +3,7 @@ use Prim.Native.Nat.{ℕ, _*_, _/_, _≤_, _<_}
 use native.Mathlib.Nat.{zero-div}
 use native.Mathlib.Decide.{decLt, ℕ-discrete}
 use native.Mathlib.Omega.{arith}
-use mathlib.Core.Path.{_≡_, sym, ap, _∙_}
+use mathlib.Core.Path.{_≡_, sym, _∙_}
 use mathlib.Core.Logic.{_↔_}
 use mathlib.Core.List.{List}
 use lib.ListN.{length}
@@ -44,11 +44,6 @@ mark-at i = number-at 64 32 i
 -- a situation that has a bit is among those
 has-among : {s : Situation} → HasMark s → Among 128 64 32 s
 has-among h = record { state = h .state; cell = h .cell; counter = h .counter }
-
--- two situations with the same bit are one
-pub mark-once : {s u : Situation} → HasMark s → HasMark u → markOf s ≡ markOf u → s ≡ u
-unfolding markOf
-mark-once h k e = sym (at-number (has-among h)) ∙ ap (situationAt 64 32) e ∙ at-number (has-among k)
 
 -- a situation's bit is among the first
 pub mark-below : {s : Situation} → HasMark s → markOf s < situations

@@ -1,5 +1,5 @@
 -- One turn of the search: what is picked is followed, and fewer are left; where nothing is picked the search is over.
-use Prim.Native.Nat.{ℕ, _+_, _<_}
+use Prim.Native.Nat.{ℕ, _<_}
 use native.Mathlib.Omega.{arith}
 use mathlib.Core.Path.{_≡_}
 use mathlib.Core.Bool.{Bool, false}

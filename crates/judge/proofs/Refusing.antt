@@ -1,19 +1,18 @@
 -- The refusals in number order, and what is judged where none is given.
-use Prim.Native.Nat.{ℕ, _+_, _*_, _≤_, _<_}
+use Prim.Native.Nat.{ℕ, _+_, _≤_, _<_}
 use native.Mathlib.Omega.{arith}
 use mathlib.Core.Path.{_≡_, refl, sym, _∙_, subst}
-use mathlib.Core.Logic.{_≢_, inl, inr}
-use mathlib.Core.List.{List, List·Memᴰ}
-use lib.ListN.{length, getD}
+use mathlib.Core.Logic.{inl, inr}
+use mathlib.Core.List.{List}
+use lib.ListN.{length}
 use Rattle.table.specs.Table.{Table}
 use Rattle.table.specs.WellFormed.{IsImage, WellFormed}
 use Rattle.table.specs.Refusal.{because, atZero, First, refusal}
 use Rattle.table.specs.Check.{Checked, wellFormed, malformed, checkedNumber, CheckedRight, Checks}
 use Rattle.table.specs.Fields.{tableOf}
 use Rattle.table.proofs.Encoded.{image-table}
-use Rattle.judge.specs.Marks.{markBytes}
-use Rattle.judge.specs.Judge.{FirstOutside, reasons, Judgeable}
-use Rattle.judge.specs.Inner.{FirstOther, RefusedAs, Refusing}
+use Rattle.judge.specs.Judge.{FirstOutside, reasons}
+use Rattle.judge.specs.Inner.{FirstOther, Refusing}
 use Rattle.judge.proofs.Judges.{same-letters}
 
 -- a check that gives 1 found the image of a table, which is what its fields say

@@ -1,25 +1,24 @@
 -- The search, step by step: from a start marked on empty marks, by following the rows of pending situations one after the other.
-use Prim.Native.Nat.{ℕ, zero, suc, _+_, _*_, _/_, _%_, _≤_, _<_}
+use Prim.Native.Nat.{ℕ, _+_, _≤_, _<_}
 use native.Mathlib.Decide.{ℕ-discrete}
 use native.Mathlib.Omega.{arith}
-use mathlib.Core.Path.{_≡_, refl, sym, ap, _∙_, subst}
+use mathlib.Core.Path.{_≡_, refl, sym, _∙_, subst}
 use mathlib.Core.Bool.{Bool, true, false, true≢false}
-use mathlib.Core.Logic.{_⊎_, inl, inr, ⊎-elim}
+use mathlib.Core.Logic.{_⊎_, ⊎-elim}
 use mathlib.Core.List.{List}
-use lib.ListN.{length, getD}
-use Rattle.bits.specs.Bit.{bit, withBit, withoutBit}
+use lib.ListN.{length}
+use Rattle.bits.specs.Bit.{bit, withoutBit}
 use Rattle.bits.proofs.Change.{bit-cleared, bit-cleared-other, length-withoutBit}
 use Rattle.table.specs.Table.{Row, Table}
 use Rattle.table.proofs.RowList.{rows-in}
 use Rattle.table.specs.Fields.{tableOf, rowOf, rowCount}
 use Rattle.machine.specs.Step.{Situation, Takes, Step}
 use Rattle.machine.specs.Run.{Reach, begins, goes, Passes}
-use Rattle.machine.specs.Outcome.{stepTo}
 use Rattle.machine.proofs.Steps.{takes-once, same-counter}
 use Rattle.judge.specs.Marks.{markBytes, HasMark, markOf}
 use Rattle.judge.specs.Search.{situations, situationOf, marked, Followed, RowDone, Ready, Searching, Between, Keeps}
 use Rattle.judge.proofs.Marks.{reached-has-mark, mark-below, mark-of}
-use Rattle.judge.proofs.Marking.{length-marked, marked-kept, marked-only, marked-only-pending, marked-set, marked-followed, marked-followed-before}
+use Rattle.judge.proofs.Marking.{length-marked, marked-kept, marked-only, marked-only-pending, marked-set, marked-followed-before}
 
 -- a row that is done with stays so while marks are added
 done-kept

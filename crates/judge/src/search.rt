@@ -5,7 +5,7 @@ use super::pending::pick;
 use machine::Outcome;
 use machine::Symbol;
 ghost use mathlib.Core.Path.{_≡_};
-ghost use Prim.Native.Nat.{ℕ, _+_, _*_, _≤_};
+ghost use Prim.Native.Nat.{_+_, _*_, _≤_};
 ghost use lib.ListN.{length};
 ghost use Rattle.machine.specs.Code.{symbolIs};
 ghost use Rattle.judge.specs.Search.{Searched};

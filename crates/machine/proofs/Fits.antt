@@ -1,17 +1,16 @@
 -- When a row's symbol and its test fit, and what its change comes to, case by case.
 use Prim.Native.Nat.{ℕ, _+_, _-_, _≤_, _<_, min}
 use native.Mathlib.Omega.{arith}
-use mathlib.Core.Path.{_≡_, refl, sym, ap, _∙_}
+use mathlib.Core.Path.{_≡_, refl, ap, _∙_}
 use mathlib.Core.Bool.{Bool, true, false, cond, _&&_, _||_}
-use mathlib.Core.Option.{Option, none, some}
+use mathlib.Core.Option.{none, some}
 use mathlib.Core.List.{List}
-use lib.ListN.{length, getD, take, drop, length-take, length-drop}
-use lib.Dec.{leb, ltb, eqb, leb·zero}
+use lib.ListN.{length, getD, drop, length-take, length-drop}
+use lib.Dec.{ltb, eqb, leb·zero}
 use borrow.Author.Tests.{lt-ltb, le-ltb, le-leb, lt-leb, eq-eqb, ne-eqb}
 use Rattle.table.specs.Fields.{lettersOf, letterOf, tableOf}
 use Rattle.machine.specs.Cell.{Symbol, leftMark, letter, rightMark}
 use Rattle.machine.specs.Step.{symbolFits, counterFits, changed}
-use Rattle.machine.specs.declared.Outcome.{Outcome}
 use Rattle.machine.specs.declared.Outcome.the-variants.{Goes, Blocked, OverLimit}
 use Rattle.machine.specs.Outcome.{outcomeOf}
 

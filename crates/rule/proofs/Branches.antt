@@ -3,12 +3,10 @@ use Prim.Native.Nat.{ℕ, suc, _+_, _≤_, _<_}
 use native.Mathlib.Decide.{ℕ-discrete}
 use native.Mathlib.Omega.{arith}
 use mathlib.Core.Path.{_≡_, refl, sym, ap, _∙_, subst, subst₂}
-use mathlib.Core.Bool.{Bool, true, false}
-use mathlib.Core.Option.{some}
+use mathlib.Core.Bool.{true, false}
 use mathlib.Core.List.{List, [], _∷_}
-use lib.ListN.{length}
-use lib.Dec.{T, leb, eqb}
-use borrow.Author.Tests.{eqb-true, eqb-false, eq-eqb, ne-eqb, lt-leb, le-leb}
+use lib.Dec.{T, eqb}
+use borrow.Author.Tests.{eq-eqb, ne-eqb, lt-leb, le-leb}
 use Rattle.text.specs.First.{First}
 use Rattle.text.specs.declared.Token.{Token}
 use Rattle.rule.specs.Inside.Class.{Mark, mark}
@@ -18,7 +16,7 @@ use Rattle.rule.specs.declared.answers.Counts.{Counts}
 use Rattle.rule.specs.declared.answers.Read.{Read}
 use Rattle.rule.specs.declared.answers.Read.the-variants.{Went, Refused}
 use Rattle.rule.proofs.Follow.{notFirst}
-use Rattle.rule.proofs.Moves.{moves, onward, then, stay, break, counts-plus}
+use Rattle.rule.proofs.Moves.{moves, then, stay, break, counts-plus}
 use Rattle.rule.proofs.Missed.{Misses, refused}
 use Rattle.rule.proofs.Peek.{no-also-here}
 

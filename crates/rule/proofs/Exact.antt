@@ -1,18 +1,18 @@
 -- One sign and no other: the sign of one byte that is written so.
-use Prim.Native.Nat.{ℕ, _+_, _-_, _≤_, _<_}
+use Prim.Native.Nat.{ℕ, _-_, _≤_, _<_}
 use native.Mathlib.Omega.{arith}
 use mathlib.Core.Path.{_≡_, refl, sym, ap, _∙_, subst}
-use mathlib.Core.Bool.{Bool, true, false, not, _&&_, _||_}
-use mathlib.Core.Option.{Option, none, some}
+use mathlib.Core.Bool.{Bool, true, false, not, _||_}
+use mathlib.Core.Option.{none, some}
 use mathlib.Core.List.{List, [], _∷_}
-use lib.ListN.{length, take, drop, getD, length-drop}
+use lib.ListN.{length, drop, getD, length-drop}
 use lib.Seq.{drop-cons, length-take-le}
 use lib.Dec.{T, eqb, eqb-refl}
 use denote.Enum.Declared.{tagOf}
 use types.Run.{OneOf}
 use Rattle.bits.proofs.Tests.{sameList}
 use Rattle.text.specs.Token as Spelt
-use Rattle.text.specs.Token.{word, number, letter, sign, Spells, aSign}
+use Rattle.text.specs.Token.{number, letter, sign, Spells, aSign}
 use Rattle.text.specs.First.{written, part, First}
 use Rattle.text.specs.declared.Sign.{Sign}
 use Rattle.text.specs.declared.Token.{Token}
@@ -22,7 +22,7 @@ use Rattle.text.proofs.Runs.{T-true}
 use Rattle.text.proofs.Same.{sameToken, same-token}
 use Rattle.rule.specs.Inside.Class as Class
 use Rattle.rule.specs.Inside.Class.{Mark, spell, Class, mark, other, tokenOf, classify, token-of-class, class-of-mark}
-use Rattle.rule.specs.Inside.Machine.{Symbol, exact, Stack, Totals, Move, choices, pick}
+use Rattle.rule.specs.Inside.Machine.{exact, Stack, Totals, choices, pick}
 use Rattle.rule.specs.Inside.Answers.{Front, refusalOf, spot, totals, Ready, Answers}
 use Rattle.rule.specs.declared.answers.Counts.{Counts}
 use Rattle.rule.specs.declared.answers.Refusal.{Refusal}

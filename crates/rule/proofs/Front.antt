@@ -1,15 +1,15 @@
 -- The token that comes first from a byte on, by the class by which the machine moves.
-use Prim.Native.Nat.{ℕ, _≤_, _<_}
+use Prim.Native.Nat.{ℕ, _≤_}
 use native.Mathlib.Omega.{arith}
 use mathlib.Core.Path.{_≡_, refl, sym, ap, _∙_, subst}
 use mathlib.Core.Bool.{Bool, true, false}
 use mathlib.Core.List.{List, [], _∷_, map}
-use lib.ListN.{length, drop}
+use lib.ListN.{drop}
 use lib.Dec.{T}
 use Rattle.bits.proofs.Tests.{every, and-left, and-right}
 use Rattle.text.specs.Token as Spelt
 use Rattle.text.specs.Token.{word, number, letter, sign}
-use Rattle.text.specs.Tokens.{Placed, _at_, Ending, Tokens}
+use Rattle.text.specs.Tokens.{Placed, Ending, Tokens}
 use Rattle.text.specs.First.{Name, reserved, unreserved, name, IsNamed, written, part, Next, First}
 use Rattle.text.specs.declared.Word.{Word}
 use Rattle.text.specs.declared.Word.the-variants as Word

@@ -1,9 +1,9 @@
 -- By which production a statement is derived, and a condition's operand, where its first token is known.
 use Prim.Native.Nat.{ℕ}
 use mathlib.Core.Path.{_≡_, refl}
-use mathlib.Core.List.{List, [], _∷_}
+use mathlib.Core.List.{List, _∷_}
 use Rattle.text.specs.Token.{number, w, s}
-use Rattle.text.specs.Tokens.{Placed, _at_}
+use Rattle.text.specs.Tokens.{_at_}
 use Rattle.rule.specs.Tree as Tree
 use Rattle.rule.specs.Tree.{Condition, Plain, Statement, Statements, Arms}
 use Rattle.rule.specs.Grammar.{
@@ -29,6 +29,8 @@ use Rattle.rule.specs.Grammar.{
   choose,
   branch,
   IsArms,
+  lastArm,
+  moreArms,
   IsBlock,
   IsStatements,
   none,
@@ -159,6 +161,15 @@ pub data Branch : Ts → Statement → Ts → Type 0 where
 pub statement-branch : {k : ℕ} {ts us : Ts} {a : Statement} → IsStatement ((w "branch" at k) ∷ ts) a us → Branch ts a us
 statement-branch (branch b a) = arms b a
 statement-branch (plain d) = absurd (no-branch d)
+
+-- behind `also`
+pub data Arm : Ts → Arms → Ts → Type 0 where
+  lone : {k o : ℕ} {ts us : Ts} {b : Statements} → IsBlock ts o b us → Arm ts (Tree.lastArm k o b) us
+  andMore : {k o : ℕ} {ts us vs : Ts} {b : Statements} {a : Arms} → IsBlock ts o b us → IsArms us a vs → Arm ts (Tree.moreArms k o b a) vs
+
+pub behind-also : {k : ℕ} {ts us : Ts} {a : Arms} → IsArms ((w "also" at k) ∷ ts) a us → Arm ts a us
+behind-also (lastArm b) = lone b
+behind-also (moreArms b a) = andMore b a
 
 -- no statement begins with these
 statement-else : {k : ℕ} {ts us : Ts} {a : Statement} → IsStatement ((w "else" at k) ∷ ts) a us → ⊥

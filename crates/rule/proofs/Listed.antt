@@ -1,7 +1,7 @@
 -- The letters of the alphabet as they are listed, and answers that carry them.
-use Prim.Native.Nat.{ℕ, _≤_, _<_}
+use Prim.Native.Nat.{ℕ}
 use native.Mathlib.Omega.{arith}
-use mathlib.Core.Path.{_≡_, refl, sym, ap, _∙_, subst}
+use mathlib.Core.Path.{_≡_, sym, ap, _∙_, subst}
 use mathlib.Core.Bool.{Bool, true, false, _||_}
 use mathlib.Core.List.{List, [], _∷_, _++_}
 use lib.ListN.{length}
@@ -11,7 +11,9 @@ use Rattle.rule.specs.Limits.{isIn}
 use Rattle.rule.specs.Inside.Machine.{Stack, withLetter, excess}
 use Rattle.rule.specs.Inside.Answers.{Spot, totals, Answers, alphabetOf, Sized, AnswersWith}
 use Rattle.rule.specs.declared.answers.Counts.{Counts}
+use Rattle.rule.specs.declared.answers.Refusal.{Refusal}
 use Rattle.rule.specs.declared.answers.Read.{Read}
+use Rattle.rule.specs.declared.answers.Read.the-variants.{Refused}
 use Rattle.rule.specs.declared.letters.Letters.{Letters}
 use Rattle.rule.specs.declared.settings.Settings.{Settings}
 use Rattle.rule.proofs.Alphabet.{alphabet-length}
@@ -43,3 +45,12 @@ without {text} {s} {x} {r = r} e h =
       answers = subst (λ (v : Read). Answers text s x (alphabetOf (r .letters)) v) (sym (e .0)) (h (alphabetOf (r .letters)));
       sized = e .1;
     }
+
+-- a refusal behind letters
+pub refused-behind : {text : List ℕ} {s : Spot} {x : Stack} {u : Refusal} {l : Letters} {r : Settings}
+    → r ≡ record { read = Refused u; letters = l }
+    → Sized l
+    → Answers text s x (alphabetOf l) (Refused u)
+    → AnswersWith text s x r
+refused-behind {text} {s} {x} e h a =
+    subst (λ (r : Settings). AnswersWith text s x r) (sym e) (record { answers = a; sized = h })

@@ -1,11 +1,10 @@
 -- A token that no choice takes is refused where it stands, and so is the end of the text.
 use Prim.Native.Nat.{ℕ}
 use native.Mathlib.Omega.{arith}
-use mathlib.Core.Path.{_≡_, refl, sym, ap, _∙_, subst}
-use mathlib.Core.Bool.{Bool, true, false, not, _||_}
+use mathlib.Core.Path.{_≡_, refl, sym, ap, subst}
+use mathlib.Core.Bool.{Bool, true, false, not}
 use mathlib.Core.Option.{Option, none, some}
-use mathlib.Core.List.{List, [], _∷_, _++_, map}
-use lib.ListN.{drop}
+use mathlib.Core.List.{List, [], _∷_, map}
 use lib.Dec.{T, T-not, eqb, eqb-refl}
 use mir.Facts.{or-no}
 use mir.Val.{hasKey}
@@ -13,8 +12,7 @@ use denote.Enum.Declared.{tagOf}
 use types.Run.{OneOf}
 use Rattle.text.specs.Token as Spelt
 use Rattle.text.specs.Token.{word, number, letter, sign}
-use Rattle.text.specs.Tokens.{Placed, _at_, Ending, ends, broken, Tokens}
-use Rattle.text.specs.First.{Name, reserved, unreserved, name, written, part, Next, Begins, First}
+use Rattle.text.specs.First.{Name, reserved, unreserved, name, written, part, First}
 use Rattle.text.specs.declared.Word.{Word}
 use Rattle.text.specs.declared.Sign.{Sign}
 use Rattle.text.specs.declared.Token.{Token}
@@ -26,10 +24,10 @@ use Rattle.text.proofs.Same.{sameToken, same-token}
 use Rattle.text.proofs.Follow.{placeOf}
 use Rattle.rule.specs.Inside.Class as Class
 use Rattle.rule.specs.Inside.Class.{spell, Class, mark, other, tokenOf, classify, token-of-class}
-use Rattle.rule.specs.Inside.Machine.{Symbol, Stack, Value, Totals, Move, Choice, on, onNumber, onLetter, choices, take, pick, run}
-use Rattle.rule.specs.Inside.Answers.{Front, refusalOf, spot, Stops, Answers}
+use Rattle.rule.specs.Inside.Machine.{Symbol, Stack, Totals, Move, Choice, on, onNumber, onLetter, choices, take, pick, run}
+use Rattle.rule.specs.Inside.Answers.{refusalOf, spot, Stops, Answers}
 use Rattle.rule.specs.declared.answers.Refusal.{Refusal}
-use Rattle.rule.specs.declared.answers.Read.the-variants.{Went, Refused}
+use Rattle.rule.specs.declared.answers.Read.the-variants.{Refused}
 use Rattle.rule.proofs.Arms.{passing, left-passes, valuesLeft, value-left}
 use Rattle.rule.proofs.Front.{named, classOf, front-word, front-number, front-letter, front-sign}
 use Rattle.rule.proofs.Moves.{misses, under-stops}

@@ -2,17 +2,16 @@
 use Prim.Native.Nat.{ℕ, suc, _+_, _≤_, _<_}
 use native.Mathlib.Omega.{arith}
 use mathlib.Core.Path.{_≡_, refl, sym, ap, _∙_, subst}
-use mathlib.Core.Bool.{Bool, true, false}
-use mathlib.Core.Option.{Option, none, some}
+use mathlib.Core.Bool.{true, false}
+use mathlib.Core.Option.{none, some}
 use mathlib.Core.List.{List, [], _∷_, _++_, append-assoc}
 use lib.ListN.{length, drop}
-use Rattle.text.specs.Token as Spelt
 use Rattle.text.specs.Tokens.{Placed, _at_, Ending, Tokens}
 use Rattle.text.proofs.Scan.{scanFrom}
 use Rattle.text.proofs.Tokens.{scanFrom-right, tokens-once}
-use Rattle.rule.specs.Inside.Class.{Class, classify}
-use Rattle.rule.specs.Inside.Machine.{Symbol, Stack, Value, Totals, counted, Move, choices, pick, Outcome, refused, move, run}
-use Rattle.rule.specs.Inside.Answers.{Front, Spot, spot, totals, Comes, Stops, Ready, Further, Answers, Past, Eats}
+use Rattle.rule.specs.Inside.Class.{Class}
+use Rattle.rule.specs.Inside.Machine.{Symbol, Stack, Value, Totals, Move, choices, pick, move}
+use Rattle.rule.specs.Inside.Answers.{Front, Spot, spot, totals, Comes, Stops, Ready, Answers, Past, Eats}
 use Rattle.rule.specs.declared.answers.Counts.{Counts}
 use Rattle.rule.specs.declared.answers.Refusal.{Refusal}
 use Rattle.rule.specs.declared.answers.Read.{Read}

@@ -3,15 +3,14 @@ use Prim.Native.Nat.{ℕ}
 use native.Mathlib.Omega.{arith}
 use mathlib.Core.Path.{_≡_, refl, sym, ap, _∙_, subst}
 use mathlib.Core.Bool.{Bool, true, false, not, true≢false}
-use mathlib.Core.Option.{Option, none, some}
+use mathlib.Core.Option.{none}
 use mathlib.Core.List.{List, [], _∷_, _++_}
-use lib.ListN.{drop}
 use lib.Dec.{T, T-not, eqb, eqb-refl}
 use denote.Enum.Declared.{tagOf}
 use types.Run.{OneOf}
 use Rattle.text.specs.Token as Spelt
 use Rattle.text.specs.Token.{word, sign}
-use Rattle.text.specs.Tokens.{Placed, _at_, Ending, ends, broken, Tokens}
+use Rattle.text.specs.Tokens.{Placed, _at_, Ending, ends, broken}
 use Rattle.text.specs.First.{Name, reserved, name, IsNamed, IsWord, written, part, Begins, First}
 use Rattle.text.specs.declared.Word.{Word}
 use Rattle.text.specs.declared.Token.{Token}

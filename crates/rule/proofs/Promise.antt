@@ -1,7 +1,7 @@
 -- What comes of a text is what reading promises, and nothing else is.
 use Prim.Native.Nat.{ℕ, _≤_, _<_}
 use native.Mathlib.Omega.{arith}
-use mathlib.Core.Path.{_≡_, refl, sym, ap, _∙_, subst}
+use mathlib.Core.Path.{_≡_, refl, sym, ap, _∙_}
 use mathlib.Core.Logic.{inl, inr}
 use mathlib.Core.List.{List, [], _∷_}
 use lib.ListN.{length}
@@ -11,7 +11,7 @@ use Rattle.rule.specs.Tree.{Program}
 use Rattle.rule.specs.Counts.{programStates, programRows}
 use Rattle.rule.specs.Faults.{FirstFault, Reads}
 use Rattle.rule.specs.Reading.{TooMany, reasons, Whole, ReadsTo}
-use Rattle.rule.specs.Inside.Machine.{Outcome, taken, refused, outcome}
+use Rattle.rule.specs.Inside.Machine.{taken, refused, outcome}
 use Rattle.rule.specs.declared.Reading.{Reading}
 use Rattle.rule.specs.declared.Reading.the-variants.{Taken, Refused}
 use Rattle.rule.proofs.Outcomes.{refused-fault, taken-reads, first-fault-once, reads-no-fault, reads-once}

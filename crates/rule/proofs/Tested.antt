@@ -1,16 +1,16 @@
 -- The atoms of a condition: each token of one is a move of the machine, and together they are derived.
-use Prim.Native.Nat.{ℕ, _+_, _≤_, _<_}
+use Prim.Native.Nat.{ℕ, _+_, _≤_}
 use native.Mathlib.Omega.{arith}
 use mathlib.Core.Path.{_≡_, refl, sym, ap, _∙_, subst}
 use mathlib.Core.Bool.{Bool, true, false, not, true≢false}
-use mathlib.Core.Option.{Option, none, some}
-use mathlib.Core.List.{List, [], _∷_, _++_, cons≢nil}
-use lib.ListN.{length, drop}
+use mathlib.Core.Option.{none, some}
+use mathlib.Core.List.{List, [], _∷_, cons≢nil}
+use lib.ListN.{length}
 use denote.Enum.Declared.{tagOf}
 use types.Run.{OneOf, hit, miss}
 use Rattle.text.specs.Token as Spelt
-use Rattle.text.specs.Token.{w, s}
-use Rattle.text.specs.Tokens.{Placed, _at_, Ending, Tokens}
+use Rattle.text.specs.Token.{w}
+use Rattle.text.specs.Tokens.{_at_, Ending}
 use Rattle.text.specs.First.{part, First}
 use Rattle.text.specs.declared.Word.{Word}
 use Rattle.text.specs.declared.Sign.{Sign}
@@ -25,12 +25,12 @@ use Rattle.rule.specs.Tree as Tree
 use Rattle.rule.specs.Tree.{Number}
 use Rattle.rule.specs.Grammar as Grammar
 use Rattle.rule.specs.Grammar.{Ts, IsSought, IsAtom}
-use Rattle.rule.specs.Limits.{Fault, faultIf, isIn, soughtFaults, numberFaults, atomFaults}
+use Rattle.rule.specs.Limits.{faultIf, isIn, soughtFaults, numberFaults, atomFaults}
 use Rattle.rule.specs.Inside.Class as Class
-use Rattle.rule.specs.Inside.Class.{Class, tokenOf, classify, token-of-class}
+use Rattle.rule.specs.Inside.Class.{Class, tokenOf, token-of-class}
 use Rattle.rule.specs.Inside.Machine.{Symbol, number, operand, sought, Stack, Value, Totals, counted, Move, outside, choices, pick, move, run}
 use Rattle.rule.specs.Inside.Answers.{Front, refusalOf, spot, totals, Stops, Ready, Answers}
-use Rattle.rule.specs.Inside.Atoms.{symbolOf, atomOf, rowsOf, compared, behind, isSign, NoSign, IsFound, Tests}
+use Rattle.rule.specs.Inside.Atoms.{symbolOf, atomOf, rowsOf, compared, behind, isSign, NoSign, Tests}
 use Rattle.rule.specs.declared.answers.Refusal.{Refusal}
 use Rattle.rule.specs.declared.answers.Counts.{Counts}
 use Rattle.rule.specs.declared.answers.Read.the-variants as Read

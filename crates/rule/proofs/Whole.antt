@@ -11,11 +11,10 @@ use Rattle.text.specs.declared.Token.the-variants as Token
 use Rattle.text.proofs.Token as token-type
 use Rattle.text.proofs.Tokens.{tokens-once}
 use Rattle.rule.specs.Inside.Machine.{program, start, Totals, taken, refused, run, outcome}
-use Rattle.rule.specs.Inside.Answers.{refusalOf, spot, totals, Comes, Stops, Answers, outcomeOf}
-use Rattle.rule.specs.declared.answers.Counts.{Counts}
+use Rattle.rule.specs.Inside.Answers.{refusalOf, spot, Comes, Stops, Answers, outcomeOf}
 use Rattle.rule.specs.declared.answers.Refusal.{Refusal}
 use Rattle.rule.specs.declared.answers.Read.{Read}
-use Rattle.rule.specs.declared.answers.Read.the-variants.{Went, Refused}
+use Rattle.rule.specs.declared.answers.Read.the-variants.{Refused}
 use Rattle.rule.proofs.Outcomes.{outcome-is}
 
 -- nothing more is expected, and nothing or something is left

@@ -5,7 +5,7 @@ use mathlib.Core.List.{List, [], _∷_}
 use Rattle.text.specs.Token.{Token, w, s}
 use Rattle.text.specs.Tokens.{Placed, _at_}
 use Rattle.rule.specs.Tree as Tree
-use Rattle.rule.specs.Tree.{Number, Letter, Sought, Atom, Condition, Plain, Statement, Statements, Arms, Program, done, _then_}
+use Rattle.rule.specs.Tree.{Letter, Sought, Atom, Condition, Plain, Statement, Statements, Arms, Program, done, _then_}
 
 abbrev pub Ts : Type 0
 Ts = List Placed

@@ -4,53 +4,10 @@ use mathlib.Core.Path.{_≡_}
 use mathlib.Core.Bool.{Bool, true, false, cond, not, _&&_, _||_}
 use mathlib.Core.Option.{Option, none, some}
 use mathlib.Core.List.{List}
-use lib.ListN.{length}
 use lib.Dec.{leb, eqb}
 use Rattle.machine.specs.Cell as Cell
 use Rattle.machine.specs.Cell.{Symbol, leftMark, rightMark, symbolOn, last}
-use Rattle.rule.specs.Tree.{
-  Number,
-  Sought,
-  letter,
-  lend,
-  rend,
-  Atom,
-  readIs,
-  readIsNot,
-  counterIs,
-  counterIsNot,
-  Condition,
-  atom,
-  parens,
-  negation,
-  both,
-  either,
-  Plain,
-  moveBy,
-  moveBack,
-  gotoLend,
-  gotoRend,
-  increment,
-  decrement,
-  add,
-  subtract,
-  Statement,
-  plain,
-  accept,
-  reject,
-  if,
-  ifElse,
-  while,
-  choose,
-  branch,
-  Statements,
-  done,
-  _then_,
-  Arms,
-  lastArm,
-  moreArms,
-  Program,
-}
+use Rattle.rule.specs.Tree.{Sought, letter, lend, rend, Atom, readIs, readIsNot, counterIs, counterIsNot, Condition, atom, parens, negation, both, either, Plain, moveBy, moveBack, gotoLend, gotoRend, increment, decrement, add, subtract, Statement, plain, accept, if, ifElse, while, choose, branch, Statements, done, _then_, Arms, lastArm, moreArms, Program}
 use Rattle.rule.specs.Limits.{value}
 
 -- `read == x`: a mark differs from every letter, and from the other mark

@@ -1,5 +1,4 @@
 // Plain statements, behind their first word.
-ghost use mathlib.Core.Path.{_≡_};
 ghost use mathlib.Core.List.{List, [], _∷_};
 ghost use Prim.Native.Nat.{ℕ};
 ghost use Rattle.rule.specs.Inside.Class.{Mark};

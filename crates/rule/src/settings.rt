@@ -5,7 +5,7 @@ ghost use Prim.Native.Nat.{ℕ, _≤_};
 ghost use lib.ListN.{length};
 ghost use Rattle.rule.specs.Inside.Class.{Mark};
 ghost use Rattle.rule.specs.Inside.Machine.{exact, program, alphabet, decrement, body, letters, moreLetters, truth, start};
-ghost use Rattle.rule.specs.Inside.Answers.{Sized, totals, spot, Ready, Answers, AnswersWith};
+ghost use Rattle.rule.specs.Inside.Answers.{alphabetOf, Sized, totals, spot, Ready, Answers, AnswersWith, refusedWith};
 use super::answers::Counts;
 use super::answers::Read;
 use super::answers::Refusal;
@@ -33,66 +33,85 @@ fn no_letters(read: Read) -> Settings
     }
 }
 
+// A token refused, and the letters before it.
+fn refused(token: Token, letters: Letters) -> Settings
+    ensures { λ r. ⌜ r ≡ refusedWith token letters ⌝ }
+{
+    Settings {
+        read: Read::Refused(refuse(token)),
+        letters,
+    }
+}
+
+// One letter more: none of those before it, and no 17th.
+fn letter_at(text: &[u8], at: usize, counts: Counts, listed: Letters) -> Settings
+    requires { ⌜ Ready (now text) at counts ⌝ }
+    requires { ⌜ Sized listed ⌝ }
+    ensures { λ r. ⌜ AnswersWith (now (text .entry)) (spot at (letters ∷ []) (totals (alphabetOf listed) counts)) (moreLetters ∷ []) r ⌝ }
+{
+    let token = token_at(text, at);
+    let Token::Letter {
+        at: place,
+        end,
+        byte,
+    } = token
+    else {
+        return refused(token, listed);
+    };
+    if listed.has(byte) {
+        return Settings {
+            read: Read::Refused(Refusal { number: 5, place }),
+            letters: listed,
+        };
+    }
+    if listed.count == 16 {
+        return Settings {
+            read: Read::Refused(Refusal { number: 5, place }),
+            letters: listed,
+        };
+    }
+    Settings {
+        read: Read::Went { at: end, counts },
+        letters: listed.with(byte),
+    }
+}
+
 // The letters, up to the `]` and past it.
 fn letters_at(text: &[u8], at: usize, counts: Counts) -> Settings
     requires { ⌜ Ready (now text) at counts ⌝ }
     ensures { λ r. ⌜ AnswersWith (now (text .entry)) (spot at (letters ∷ []) (totals [] counts)) [] r ⌝ }
 {
     let mut from = at;
+    let mut counts = counts;
     let mut letters = Letters::none();
     loop {
-        let token = token_at(text, from);
-        let Token::Letter {
-            at: place,
-            end,
-            byte,
-        } = token
+        let more = letter_at(text, from, counts, letters);
+        let read = more.read;
+        let Read::Went {
+            at: next,
+            counts: counted,
+        } = read
         else {
-            return Settings {
-                read: Read::Refused(refuse(token)),
-                letters,
-            };
+            return more;
         };
-        if letters.has(byte) {
-            return Settings {
-                read: Read::Refused(Refusal { number: 5, place }),
-                letters,
-            };
-        }
-        if letters.count == 16 {
-            return Settings {
-                read: Read::Refused(Refusal { number: 5, place }),
-                letters,
-            };
-        }
-        letters = letters.with(byte);
-        let next = token_at(text, end);
-        let Token::Sign {
-            at: _,
-            end: after,
-            sign,
-        } = next
-        else {
-            return Settings {
-                read: Read::Refused(refuse(next)),
-                letters,
-            };
+        counts = counted;
+        letters = more.letters;
+        let token = token_at(text, next);
+        let Token::Sign { at: _, end, sign } = token else {
+            return refused(token, letters);
         };
         match sign {
             Sign::CloseBracket => {
                 return Settings {
-                    read: Read::Went { at: after, counts },
+                    read: Read::Went { at: end, counts },
                     letters,
                 };
             }
             Sign::Comma => {
-                from = after;
+                from = end;
             }
             _ => {
-                return Settings {
-                    read: Read::Refused(refuse(next)),
-                    letters,
-                };
+                return refused(token, letters);
             }
         }
     }
@@ -176,16 +195,10 @@ fn alphabet_first_at(text: &[u8], at: usize, counts: Counts) -> Settings
     };
     let token = token_at(text, next);
     let Token::Word { at: _, end, word } = token else {
-        return Settings {
-            read: Read::Refused(refuse(token)),
-            letters,
-        };
+        return refused(token, letters);
     };
     let Word::DecrOnZero = word else {
-        return Settings {
-            read: Read::Refused(refuse(token)),
-            letters,
-        };
+        return refused(token, letters);
     };
     Settings {
         read: truth_at(text, end, same),

@@ -1,6 +1,6 @@
 // Blocks and statements. A block holds statements, and a statement may hold blocks.
 ghost use mathlib.Core.List.{[], _∷_};
-ghost use Prim.Native.Nat.{ℕ, _-_, _≤_};
+ghost use Prim.Native.Nat.{_-_, _≤_};
 ghost use Rattle.rule.specs.Inside.Class.{Mark};
 ghost use Rattle.rule.specs.Inside.Machine.{exact, operand, tail, block, statements, orElse, loop, arms};
 ghost use Rattle.rule.specs.Inside.Answers.{alphabetOf, Sized, totals, spot, Ready, Answers, Eats, LastArm};

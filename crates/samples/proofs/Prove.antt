@@ -26,7 +26,7 @@ use Rattle.rule.specs.Inside.Machine.{Outcome, taken, refused, outcome}
 use Rattle.rule.proofs.Steps.{begin, eat}
 use Rattle.rule.proofs.Complete.{built}
 use Rattle.rule.proofs.Outcomes.{built-program, refused-fault}
-use Rattle.compiler.specs.Construction.{construct}
+use Rattle.construction.specs.Construction.{construct}
 use Rattle.compiler.specs.declared.Answer.the-variants as Answer
 use Rattle.compiler.specs.Compile.{Compilable, reasons, imageRoom}
 use Rattle.compiler.specs.Line.{line}

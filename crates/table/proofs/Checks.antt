@@ -38,12 +38,3 @@ other-says : (image : List ℕ) (a : Checked) → CheckedRight image a → ¬ (c
 unfolding checkedNumber
 other-says image wellFormed right other = absurd (other refl)
 other-says image malformed right other = (right, refl)
-
--- a check that gives 1 says that the image is well formed
-pub checks-one : {image : List ℕ} {r : ℕ} → Checks image r → r ≡ 1 → WellFormed image
-checks-one {image} a e = one-says image (a .answer) (a .right) (sym (a .number) ∙ e)
-
--- a check that does not give 1 says that it is not, and gives refusal 21
-pub checks-other : {image : List ℕ} {r : ℕ} → Checks image r → ¬ (r ≡ 1) → (¬ WellFormed image) × (r ≡ refusal 21 0)
-checks-other {image} a other =
-    let says = other-says image (a .answer) (a .right) (λ e. other (a .number ∙ e)) in (says .0, a .number ∙ says .1)

@@ -112,11 +112,6 @@ module _ (image : List ℕ) where
   unfolding tableOf
   rows-length = length-rowsFrom image 0 (rowCount image)
 
-  -- row i is among the rows, at place i
-  pub rows-nth : (d : Row) (i : ℕ) → i < rowCount image → getD (tableOf image .rows) i d ≡ rowOf image i
-  unfolding tableOf
-  rows-nth d i low = row-nth image d 0 (rowCount image) i low ∙ ap (rowOf image) (omega arith)
-
   pub rows-in : (i : ℕ) → i < rowCount image → List·Memᴰ (rowOf image i) (tableOf image .rows)
   unfolding tableOf
   rows-in i low = row-in image 0 (rowCount image) i (omega arith) (omega arith)

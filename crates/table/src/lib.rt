@@ -4,9 +4,8 @@ mod form;
 
 ghost use mathlib.Core.Path.{_≡_};
 ghost use Prim.Native.Nat.{_+_, _^_, _<_};
-ghost use lib.ListN.{getD};
 ghost use Rattle.bits.specs.Bit.{bit};
-ghost use Rattle.table.specs.Table.{Row, Table};
+ghost use Rattle.table.specs.Table.{Row};
 ghost use Rattle.table.specs.Fields.{twoAt, rowFrom, rowOf, tableOf, rowCount, lettersOf, letterOf};
 ghost use Rattle.table.specs.RowCode.{rowIs};
 ghost use Rattle.table.specs.Check.{Checks};

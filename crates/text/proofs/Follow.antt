@@ -1,13 +1,12 @@
 -- What a reader relies on that goes through a text from token to token.
 use Prim.Native.Nat.{ℕ, _+_, _≤_, _<_}
 use native.Mathlib.Omega.{arith}
-use mathlib.Core.Path.{_≡_, sym, ap, _∙_, subst}
+use mathlib.Core.Path.{_≡_, ap, subst}
 use mathlib.Core.List.{List, [], _∷_}
 use lib.ListN.{length, drop, length-drop}
-use Rattle.text.specs.Token.{word}
 use Rattle.text.specs.Tokens.{Placed, _at_, Ending, ends, broken, Tokens}
 use Rattle.text.specs.Tokens as Of
-use Rattle.text.specs.First.{Name, reserved, name, IsNamed, IsWord, part, NextWord, Begins, First}
+use Rattle.text.specs.First.{Begins, First}
 use Rattle.text.specs.declared.Token.{Token}
 use Rattle.text.specs.declared.Token.the-variants as Token
 use Rattle.text.specs.declared.Word.{Word}
@@ -61,22 +60,6 @@ first-onward {text} {r = r} f = omega (arith, tokens-onward (f .all), begins-pla
 first-ends : {text : List ℕ} {p : ℕ} {r : Token} (e : Ending) (f : First text p r) → f .ending ≡ e → EndsAt e (p + length (drop p text))
 first-ends {text} {p} e f same = subst (λ (g : Ending). EndsAt g (p + length (drop p text))) same (ends-from (f .all))
 
--- asked for within the text, the end is at its length
-pub end-at : {text : List ℕ} {p q : ℕ} → p ≤ length text → First text p (Token.End q) → q ≡ length text
-end-at {text} {p} {q} h f = omega (arith, first-ends (ends q) f (f .begins .ended), length-drop p text)
-
 -- a broken token stands within the text
 pub broken-at : {text : List ℕ} {p q : ℕ} → First text p (Token.Broken q) → q < length text
 broken-at {text} {p} {q} f = omega (arith, first-ends (broken q) f (f .begins .ended), first-onward f, length-drop p text)
-
--- a reserved word is the token that is written so
-pub reserved-next : {text : List ℕ} {p q : ℕ} {x : Word} {ts : List Placed} {e : Ending} {l : List ℕ}
-    → (n : NextWord text p q x ts e)
-    → name x ≡ reserved l
-    → ts ≡ (word l at p) ∷ n .next .after
-reserved-next {text} {p} {q} {x} n e =
-    n .next .first ∙ ap (λ (l : List ℕ). (word l at p) ∷ n .next .after) (subst (λ (m : Name). IsNamed m (part text p q)) e (n .which))
-
--- and another word is none of those
-pub other-word : (x : Word) {l n : List ℕ} → IsWord Word.Other l → name x ≡ reserved n → ¬ (l ≡ n)
-other-word x h e same = h x (e ∙ ap reserved (sym same))

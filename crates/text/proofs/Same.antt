@@ -1,7 +1,6 @@
 -- Whether two tokens are the same, by a test that computes.
-use Prim.Native.Nat.{ℕ}
 use mathlib.Core.Path.{_≡_, ap}
-use mathlib.Core.Bool.{Bool, true, false}
+use mathlib.Core.Bool.{Bool, false}
 use lib.Dec.{T, eqb, eqb→eq}
 use Rattle.bits.proofs.Tests.{sameList, same-list}
 use Rattle.text.specs.Token.{Token, word, number, letter, sign}

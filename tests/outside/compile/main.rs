@@ -1,14 +1,15 @@
-//! Compares the office's archive with the independent compiler: answers, image bytes, and what must stay as it was. Then the
-//! product's judge on the product's image with the interpreter of programs, which uses no table.
+//! Compares the office's archive with the independent compiler: answers, image bytes, and what must stay as it was; on samples,
+//! stored texts, every small change of two rules, and random ones. Then the product's judge on the product's image with the
+//! interpreter of programs, which uses no table.
 //! SEED sets the seed, CASES the number of random texts, SECONDS_AT_MOST ends early.
 
 use independent::compile::{compile, IMAGE};
 use independent::fenced::{report_faults, Fenced, CASE};
 use independent::interpret::interpret;
-use independent::judge::MARKS;
+use independent::judge::{Verdict, MARKS};
 use independent::random::{self, Random};
 use independent::rule::Program;
-use independent::{image, samples, texts};
+use independent::{image, samples, stored, texts};
 use std::sync::atomic::Ordering;
 use std::time::{Duration, Instant};
 
@@ -21,6 +22,9 @@ const EVERYTHING: &str = "decr_on_zero = true ;\talphabet=['a','B','0'];//all\r\
     if(read=='a'&&!(c==0||read!=rend)){accept;}else{reject;}\
     while(!read==lend||c!=0&&read!='0'){}while choose{move(0);}\
     branch{}also{c++;}also{}\n} // end";
+
+/// Room for a text; one stored text is longer, for the compile program's own test.
+const TEXT: usize = 65_536;
 
 struct Test {
     text: Fenced,
@@ -110,6 +114,49 @@ impl Test {
         Ok(())
     }
 
+    /// The errors that a volunteer would make, each on the rules that show it.
+    fn errors(&mut self) -> Result<(), String> {
+        for shows in samples::errors() {
+            let image = self.compile(shows.text.as_bytes(), IMAGE)?.ok_or("a rule that shows an error was refused")?;
+            if self.judge(&image, shows.word.as_bytes(), shows.limit) != shows.verdict as u64 {
+                return Err(format!("{}: {} on '{}' at limit {}", shows.error, shows.text, shows.word, shows.limit));
+            }
+        }
+        Ok(())
+    }
+
+    /// `{}` for a body compiles to a table that accepts nothing: no state accepts, and no word is judged yes at any limit.
+    fn empty_body(&mut self) -> Result<(), String> {
+        let text = format!("{}{{}}", samples::H);
+        let image = self.compile(text.as_bytes(), IMAGE)?.ok_or("the empty body was refused")?;
+        let table = image::decode(&image).ok_or("the empty body's image is not well-formed")?;
+        if !table.accepting.is_empty() {
+            return Err("the empty body: a state accepts".into());
+        }
+        for word in [&b""[..], b"a", b"aa", &[b'a'; 62]] {
+            for limit in 0..=31 {
+                if self.judge(&image, word, limit) != Verdict::No as u64 {
+                    return Err(format!("the empty body: not no on '{}' at limit {limit}", word.escape_ascii()));
+                }
+            }
+        }
+        Ok(())
+    }
+
+    /// The stored texts, every byte alone and behind a program, and every cut of those that are not long.
+    fn stored(&mut self) -> Result<(), String> {
+        let cases = stored::cases(stored::FOLDER)?.into_iter().chain(stored::bytes());
+        for case in cases.filter(|case| case.text.len() <= TEXT) {
+            self.compile(&case.text, IMAGE).map_err(|what| format!("{}: {what}", case.name))?;
+            if case.text.len() < 300 {
+                for at in 0..case.text.len() {
+                    self.compile(&case.text[..at], IMAGE)?;
+                }
+            }
+        }
+        Ok(())
+    }
+
     /// Every cut of a text, every byte of it changed to every other, taken out, and every byte put in everywhere.
     fn every_small_change(&mut self, text: &[u8]) -> Result<(), String> {
         for at in 0..=text.len() {
@@ -160,6 +207,9 @@ fn number(name: &str) -> Option<u64> {
 fn run(test: &mut Test, seed: u64) -> Result<(), String> {
     let end = Instant::now() + Duration::from_secs(number("SECONDS_AT_MOST").unwrap_or(25));
     test.samples()?;
+    test.errors()?;
+    test.empty_body()?;
+    test.stored()?;
     test.every_small_change(samples::BAL.as_bytes())?;
     test.every_small_change(EVERYTHING.as_bytes())?;
     let mut random = Random::new(seed);
@@ -182,7 +232,7 @@ fn main() {
     let seed = random::seed();
     let image = Fenced::new(10_000);
     let mut test = Test {
-        text: Fenced::new(65_536),
+        text: Fenced::new(TEXT),
         expected: image.view().to_vec(),
         image,
         marks: vec![0; MARKS],

@@ -1,9 +1,7 @@
 -- The sum is that of the bits of the bytes passed, 256 at a time. The measure is what is left of them. Assumes nothing.
-use Prim.Native.Nat.{_≤_, _+_, _-_}
+use Prim.Native.Nat.{_≤_, _-_}
 use native.Mathlib.Omega.{arith}
-use mathlib.Core.Path.{_≡_}
 use borrow.Author.Needs.{needs}
-use lib.ListN.{length}
 use Rattle.bits.specs.Ones.{OnesBetween}
 use Rattle.bits.proofs.Counting.{ones-none, ones-both, ones-at-most, ones-all}
 use Rattle.bits.proofs.count_ones.Statement.{statement}

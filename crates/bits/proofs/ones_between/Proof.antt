@@ -1,8 +1,7 @@
 -- The sum is that of the bits of the bytes passed, at most eight for each. The measure is what is left of them. Assumes nothing.
 use Prim.Native.Nat.{_≤_, _+_, _-_}
 use native.Mathlib.Omega.{arith}
-use mathlib.Core.Path.{_≡_, subst}
-use lib.ListN.{length, getD}
+use lib.ListN.{getD}
 use lib.Count.{ones}
 use Rattle.bits.specs.Ones.{OnesBetween}
 use Rattle.bits.proofs.Counting.{ones-none, ones-more, ones-at-most, ones-to}

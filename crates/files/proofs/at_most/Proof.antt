@@ -3,8 +3,6 @@ use borrow.Author.Needs.{needs}
 use Rattle.io.proofs.Counting.{counts}
 use Rattle.files.proofs.at_most.Statement.{statement}
 use Rattle.files.proofs.at_most.Tie as tie
-use Rattle.files.proofs.at_most.Reads as reads
-use Rattle.files.proofs.at_most.Lts as lts
 
 -- src/lib.rt:62:1
 returns : tie.Need-returns

@@ -3,9 +3,6 @@ use Rattle.io.proofs.Counting.{counts}
 use borrow.Author.Needs.{needs}
 use Rattle.files.proofs.beside.Statement.{statement}
 use Rattle.files.proofs.beside.Tie as tie
-use Rattle.files.proofs.beside.Reads as reads
-use Rattle.files.proofs.beside.Lts as lts
-use Rattle.bytes.proofs.copy.Reads as copy-reads
 
 -- src/lib.rt:50:9
 returns : tie.Need-returns

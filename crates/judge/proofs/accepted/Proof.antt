@@ -1,5 +1,4 @@
 -- `judge::accepted` meets its contract. The loop's invariant: no state passed accepts in the marks.
-use borrow.Author.Needs.{needs}
 use borrow.Author.Count.{below-none, below-more}
 use Prim.Native.Nat.{ℕ, _≤_, _<_, _-_}
 use native.Mathlib.Omega.{arith}

@@ -1,7 +1,7 @@
 -- What a reader answers, by what the machine does with the text from a byte on.
 use Prim.Native.Nat.{ℕ, _+_, _*_, _≤_, _<_}
 use mathlib.Core.Path.{_≡_}
-use mathlib.Core.List.{List, [], _∷_, _++_}
+use mathlib.Core.List.{List, _∷_, _++_}
 use lib.ListN.{length, take, drop}
 use Rattle.text.specs.Token as Spelt
 use Rattle.text.specs.Tokens.{Placed, _at_, Ending, Tokens}
@@ -111,6 +111,10 @@ pub record LastArm (token : Token) (arm : Read) (arms : ℕ) (r : Read) : Type 0
 pub record AnswersWith (text : List ℕ) (s : Spot) (x : Stack) (r : Settings) : Type 0 where
   pub answers : Answers text s x (alphabetOf (r .letters)) (r .read)
   pub sized : Sized (r .letters)
+
+-- a token refused, behind these letters
+abbrev pub refusedWith : Token → Letters → Settings
+refusedWith t l = record { read = Refused (refusalOf t); letters = l }
 
 -- an answer as what comes of a text
 abbrev pub outcomeOf : Read → Outcome

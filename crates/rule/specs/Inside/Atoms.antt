@@ -15,7 +15,6 @@ use Rattle.rule.specs.Grammar.{Ts, IsAtom}
 use Rattle.rule.specs.Limits.{atomFaults}
 use Rattle.rule.specs.Inside.Machine.{Symbol, Totals}
 use Rattle.rule.specs.Inside.Answers.{spot, Stops}
-use Rattle.rule.specs.declared.answers.Refusal.{Refusal}
 use Rattle.rule.specs.declared.atoms.Symbol.{Symbol as Sought}
 use Rattle.rule.specs.declared.atoms.Symbol.the-variants as Sought
 use Rattle.rule.specs.declared.atoms.Atom.{Atom}

@@ -1,5 +1,5 @@
 -- The loop's invariant: what is left to look at says as much as all of it. Assumes nothing.
-use Prim.Native.Nat.{ℕ, _-_, _^_, _≤_}
+use Prim.Native.Nat.{_-_, _^_, _≤_}
 use native.Mathlib.Omega.{arith}
 use mathlib.Core.Path.{refl, sym, _∙_}
 use mathlib.Core.List.{List}
@@ -9,10 +9,6 @@ use Rattle.compiler.specs.Seeing.{Here}
 use Rattle.compiler.proofs.Operators.{Looking, looked-out, looked-answer, looked-on, looked-deeper}
 use Rattle.compiler.proofs.ahead.operator_ahead.Statement.{statement}
 use Rattle.compiler.proofs.ahead.operator_ahead.Tie as tie
-use Rattle.compiler.proofs.ahead.operator_ahead.Reads as reads
-use Rattle.compiler.proofs.ahead.operator_ahead.Lts as lts
-use Rattle.compiler.proofs.ahead.look.Reads as look-reads
-use Rattle.compiler.proofs.see.see.Reads as see-reads
 
 abbrev Inv-loop : tie.InvT-loop
 Inv-loop text from or at₀ depth₀ at depth = (depth ≤ at) × ((ts : List Placed) → Here text from ts → Looking text or ts at depth)

@@ -3,9 +3,6 @@ use Rattle.text.specs.declared.Token.the-variants as Token
 use Rattle.compiler.proofs.Seeing.{first-seen}
 use Rattle.compiler.proofs.see.see.Statement.{statement}
 use Rattle.compiler.proofs.see.see.Tie as tie
-use Rattle.compiler.proofs.see.see.Reads as reads
-use Rattle.compiler.proofs.see.see.Lts as lts
-use Rattle.text.proofs.token_at.Reads as token-at-reads
 
 token-at-requires : tie.Need-token-at-requires
 token-at-requires c κs = search needs

@@ -1,9 +1,8 @@
 -- The loop's invariant: the rows of the first symbols are written. Assumes nothing.
-use Prim.Native.Nat.{ℕ, _+_, _-_, _≤_}
+use Prim.Native.Nat.{_-_, _≤_}
 use native.Mathlib.Omega.{arith}
 use mathlib.Core.Path.{_≡_, refl, _∙_}
 use lib.ListN.{length}
-use borrow.Author.Needs.{needs}
 use Rattle.compiler.proofs.AtomRows.{Partly, partly-none, partly-room, partly-more, partly-all}
 use Rattle.compiler.proofs.walk.others.Statement.{statement}
 use Rattle.compiler.proofs.walk.others.Tie as tie

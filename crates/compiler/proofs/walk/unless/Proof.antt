@@ -1,6 +1,5 @@
 -- Assumes nothing.
 use mathlib.Core.Path.{sym}
-use mathlib.Core.List.{List, []}
 use borrow.Author.Needs.{needs}
 use Rattle.compiler.proofs.AtomRows.{writes-none, same-room, same-writes, without-same, without-other}
 use Rattle.compiler.proofs.walk.unless.Statement.{statement}

@@ -6,10 +6,6 @@ use borrow.Author.Needs.{needs}
 use Rattle.compiler.proofs.Writing.{held-long, marks-bit}
 use Rattle.compiler.proofs.write.accept.Statement.{statement}
 use Rattle.compiler.proofs.write.accept.Tie as tie
-use Rattle.compiler.proofs.write.accept.Reads as reads
-use Rattle.compiler.proofs.write.accept.Lts as lts
-use Rattle.bits.proofs.set_bit.Reads as set-bit-reads
-use Rattle.compiler.proofs.write.letters.Reads as letters-reads
 
 -- how many letters there are
 few : (c : tie.After-letters) → (c .letters .result ≤ 16) × (c .letters .result + 38 ≤ length (c .before .before .before .args .out .now))

@@ -1,6 +1,5 @@
 -- Assumes nothing.
 use mathlib.Core.Path.{ap, sym}
-use mathlib.Core.Bool.{Bool}
 use Rattle.table.specs.Image.{flag}
 use Rattle.compiler.proofs.write.flag_of.Statement.{statement}
 use Rattle.compiler.proofs.write.flag_of.Tie as tie

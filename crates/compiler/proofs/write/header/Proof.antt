@@ -2,12 +2,6 @@ use borrow.Author.Needs.{needs}
 use Rattle.compiler.proofs.Writing.{heads}
 use Rattle.compiler.proofs.write.header.Statement.{statement}
 use Rattle.compiler.proofs.write.header.Tie as tie
-use Rattle.compiler.proofs.write.header.Reads as reads
-use Rattle.compiler.proofs.write.header.Lts as lts
-use Rattle.compiler.proofs.write.flag_of.Reads as flag-of-reads
-use Rattle.compiler.proofs.write.high.Reads as high-reads
-use Rattle.compiler.proofs.write.low.Reads as low-reads
-use Rattle.compiler.proofs.write.put.Reads as put-reads
 
 low-requires : tie.Need-low-requires
 low-requires c κs = search needs

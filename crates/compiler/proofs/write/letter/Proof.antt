@@ -1,15 +1,10 @@
-use Prim.Native.Nat.{ℕ, _+_, _-_, _≤_}
+use Prim.Native.Nat.{_+_, _-_, _≤_}
 use native.Mathlib.Omega.{arith}
-use mathlib.Core.Path.{_≡_, refl, ap}
 use lib.ListN.{length}
 use borrow.Author.Needs.{needs}
 use Rattle.compiler.proofs.Writing.{held-long, held-index, index-back}
 use Rattle.compiler.proofs.write.letter.Statement.{statement}
 use Rattle.compiler.proofs.write.letter.Tie as tie
-use Rattle.compiler.proofs.write.letter.Reads as reads
-use Rattle.compiler.proofs.write.letter.Lts as lts
-use Rattle.bytes.proofs.scan.find.Reads as find-reads
-use Rattle.compiler.proofs.write.letters.Reads as letters-reads
 
 -- how many letters there are
 few : (c : tie.After-letters) → (c .letters .result ≤ 16) × (c .letters .result + 38 ≤ length (c .before .before .args .out .now))

@@ -3,9 +3,6 @@ use mathlib.Core.Path.{refl}
 use Rattle.compiler.proofs.Writing.{put-over}
 use Rattle.compiler.proofs.write.put.Statement.{statement}
 use Rattle.compiler.proofs.write.put.Tie as tie
-use Rattle.compiler.proofs.write.put.Reads as reads
-use Rattle.compiler.proofs.write.put.Lts as lts
-use Rattle.bytes.proofs.copy.Reads as copy-reads
 
 sub-copy : tie.Need-sub-copy
 sub-copy c = search needs

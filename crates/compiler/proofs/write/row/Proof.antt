@@ -4,11 +4,6 @@ use mathlib.Core.Path.{refl}
 use Rattle.compiler.proofs.Writing.{row-bytes, room-one, writes-row}
 use Rattle.compiler.proofs.write.row.Statement.{statement}
 use Rattle.compiler.proofs.write.row.Tie as tie
-use Rattle.compiler.proofs.write.row.Reads as reads
-use Rattle.compiler.proofs.write.row.Lts as lts
-use Rattle.compiler.proofs.write.high.Reads as high-reads
-use Rattle.compiler.proofs.write.low.Reads as low-reads
-use Rattle.compiler.proofs.write.put.Reads as put-reads
 
 high-requires : tie.Need-high-requires
 high-requires c κs = search needs

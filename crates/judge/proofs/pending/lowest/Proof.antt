@@ -1,5 +1,4 @@
 -- `judge::pending::lowest` meets its contract.
-use lib.Count.{trailingZeros}
 use native.Mathlib.Omega.{arith}
 use Rattle.judge.proofs.Bytes.{lowest-set}
 use Rattle.judge.proofs.pending.lowest.Statement.{statement}

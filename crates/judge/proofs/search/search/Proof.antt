@@ -1,5 +1,4 @@
 -- `judge::search::search` meets its contract. The loop's invariant: the search is between two situations; the measure: how many are left.
-use borrow.Author.Needs.{needs}
 use native.Mathlib.Omega.{arith}
 use mathlib.Core.Path.{sym, _∙_}
 use Rattle.judge.specs.Search.{Between}

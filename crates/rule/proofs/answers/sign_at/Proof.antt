@@ -1,5 +1,4 @@
 -- `rule::answers::sign_at` meets its contract: its tests are those of a sign that is written with one byte.
-use Prim.Native.Nat.{_≤_}
 use native.Mathlib.Omega.{arith}
 use borrow.Author.Needs.{needs}
 use Rattle.rule.proofs.Front.{front-sign}

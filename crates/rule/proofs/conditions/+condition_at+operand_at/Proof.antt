@@ -1,12 +1,12 @@
 -- The cycle of calls of `condition_at` and `operand_at`. Each call is nearer to the text's end, and a condition's first operand
 -- is read from where the condition is.
 use native.Mathlib.Omega.{arith}
-use mathlib.Core.Path.{refl, sym, subst}
-use mathlib.Core.List.{List, [], _∷_}
+use mathlib.Core.Path.{refl}
+use mathlib.Core.List.{[], _∷_}
 use lib.ListN.{length}
 use borrow.Author.Needs.{needs}
 use Rattle.rule.specs.Inside.Machine.{operand, tail}
-use Rattle.rule.specs.Inside.Answers.{alphabetOf, totals, spot, Comes, Ready, Answers}
+use Rattle.rule.specs.Inside.Answers.{alphabetOf, totals, spot, Comes, Ready}
 use Rattle.rule.proofs.Front.{front-sign, told-sign}
 use Rattle.rule.proofs.Moves.{stand, went, went-ready, went-forth, comes-then, onward, done, step, then, stop, break, ready-on, ready-plus}
 use Rattle.rule.proofs.Missed.{refuses, refuses-sign}

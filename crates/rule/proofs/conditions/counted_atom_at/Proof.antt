@@ -1,6 +1,6 @@
 -- `rule::conditions::counted_atom_at` meets its contract.
 use native.Mathlib.Omega.{arith}
-use mathlib.Core.Path.{_≡_, sym, ap, _∙_}
+use mathlib.Core.Path.{sym, ap, _∙_}
 use lib.ListN.{length}
 use Prim.Native.Nat.{ℕ, _≤_}
 use Rattle.rule.specs.Inside.Answers.{alphabetOf}

@@ -1,6 +1,5 @@
 -- `rule::programs::string_at` meets its contract.
 use mathlib.Core.Path.{refl}
-use mathlib.Core.List.{[]}
 use Rattle.rule.specs.Inside.Class.{Mark}
 use Rattle.rule.proofs.Front.{told-word}
 use Rattle.rule.proofs.Moves.{step, ready-on}

@@ -1,6 +1,6 @@
 -- `rule::settings::alphabet_at` meets its contract.
 use mathlib.Core.Path.{refl}
-use mathlib.Core.List.{List, []}
+use mathlib.Core.List.{[]}
 use Rattle.rule.specs.Inside.Class.{Mark}
 use Rattle.rule.specs.Inside.Answers.{alphabetOf}
 use Rattle.rule.proofs.Moves.{went-ready, then, stop}

@@ -4,6 +4,7 @@ use Rattle.rule.specs.Inside.Answers.{alphabetOf}
 use Rattle.rule.proofs.Front.{told-word}
 use Rattle.rule.proofs.Moves.{went-ready, step, then, stop, ready-on}
 use Rattle.rule.proofs.Missed.{refuses, refuses-word}
+use Rattle.rule.proofs.Listed.{refused-behind}
 use borrow.Author.Needs.{needs}
 use Rattle.rule.proofs.settings.alphabet_first_at.Statement.{statement}
 use Rattle.rule.proofs.settings.alphabet_first_at.Tie as tie
@@ -28,27 +29,27 @@ token-at-requires c κs = search needs
 enum-known-token : tie.Need-enum-known-token
 enum-known-token c = search needs
 
-refuse-requires : tie.Need-refuse-requires
-refuse-requires c κs = search needs
+refused-requires : tie.Need-refused-requires
+refused-requires c κs = search needs
 
 returns-2 : tie.Need-returns-2
 returns-2 c =
     let first = c .before .before .before .before .before .before .before .alphabet-at .ensures in
-    record { answers = then _ (first .answers) (c .before .before .before .before .read .given .1) (refuses (c .before .before .token-at .ensures) (c .before .match2 .keys2) (c .refuse .ensures)); sized = first .sized }
+    refused-behind (c .refused .ensures) (first .sized) (then _ (first .answers) (c .before .before .before .before .read .given .1) (refuses (c .before .before .token-at .ensures) (c .before .match2 .keys2) refl))
 
 enum-told-2 : tie.Need-enum-told-2
 enum-told-2 c = search needs
 
-refuse-requires-2 : tie.Need-refuse-requires-2
-refuse-requires-2 c κs = search needs
+refused-requires-2 : tie.Need-refused-requires-2
+refused-requires-2 c κs = search needs
 
 returns-3 : tie.Need-returns-3
 returns-3 c =
     let first = c .before .before .before .before .before .before .before .before .before .before .alphabet-at .ensures in
-    record {
-      answers = then _ (first .answers) (c .before .before .before .before .before .before .before .read .given .1) (refuses-word (c .before .before .before .before .before .token-at .ensures) (c .before .before .before .token .given .1) (c .before .match3 .keys2) (c .refuse2 .ensures));
-      sized = first .sized;
-    }
+    refused-behind
+    (c .refused2 .ensures)
+    (first .sized)
+    (then _ (first .answers) (c .before .before .before .before .before .before .before .read .given .1) (refuses-word (c .before .before .before .before .before .token-at .ensures) (c .before .before .before .token .given .1) (c .before .match3 .keys2) refl))
 
 truth-at-requires : tie.Need-truth-at-requires
 truth-at-requires c κs = ready-on (told-word (c .before .before .before .before .before .token-at .ensures) (c .before .before .before .token .given .1) (c .enum-told2 .given .1)) (went-ready (c .before .before .before .before .before .before .before .before .before .before .alphabet-at .ensures .answers) (c .before .before .before .before .before .before .before .read .given .1))
@@ -76,10 +77,10 @@ alphabet-first-at-spec =
     returns
     token-at-requires
     enum-known-token
-    refuse-requires
+    refused-requires
     returns-2
     enum-told-2
-    refuse-requires-2
+    refused-requires-2
     returns-3
     truth-at-requires
     returns-4)

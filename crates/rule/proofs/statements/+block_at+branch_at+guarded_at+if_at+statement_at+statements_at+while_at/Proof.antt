@@ -1,8 +1,8 @@
 -- The cycle of calls of the readers of blocks and statements. Each call is nearer to the text's end, or of lower rank at the same
 -- byte: an `if` above what it guards, statements above a statement, arms and what is guarded above a block.
 use native.Mathlib.Omega.{arith}
-use mathlib.Core.Path.{refl, sym, subst}
-use mathlib.Core.List.{List, [], _∷_}
+use mathlib.Core.Path.{refl}
+use mathlib.Core.List.{[], _∷_}
 use lib.ListN.{length}
 use borrow.Author.Needs.{needs}
 use Rattle.bits.specs.Byte.{spelling}

@@ -1,8 +1,8 @@
 -- `rule::letters::Letters::has` meets its contract: what is left to look at has the letter exactly when the whole has.
-use Prim.Native.Nat.{ℕ, _+_, _-_, _≤_}
+use Prim.Native.Nat.{_-_, _≤_}
 use native.Mathlib.Omega.{arith}
 use mathlib.Core.Path.{_≡_, refl, sym, _∙_}
-use lib.ListN.{length, take, drop}
+use lib.ListN.{take, drop}
 use lib.Seq.{getD-take}
 use Rattle.rule.specs.Limits.{isIn}
 use Rattle.rule.specs.Inside.Answers.{alphabetOf}

@@ -1,0 +1,27 @@
+-- The bit is set, and a state is taken. Assumes nothing.
+use Rattle.compiler.proofs.Emission.{at-held}
+use Rattle.compiler.proofs.Stating.{accept-few, accept-emitted, accept-onward}
+use borrow.Author.Needs.{needs}
+use Rattle.compiler.proofs.blocks.accepted.Statement.{statement}
+use Rattle.compiler.proofs.blocks.accepted.Tie as tie
+
+accept-requires : tie.Need-accept-requires
+accept-requires c κs = at-held (c .before .before .before .pre .doing .stands)
+
+stop-requires : tie.Need-stop-requires
+stop-requires c κs = accept-few (c .before .before .before .before .before .before .pre .doing)
+
+same-length : tie.Need-same-length
+same-length c = search needs
+
+returns : tie.Need-returns
+returns c =
+    let marks = c .before .before .before .accept .ensures in
+    let st = c .stop .ensures in
+    record {
+      emits = λ d. accept-emitted d marks st;
+      onward = accept-onward (c .before .before .before .before .before .before .before .pre .doing) st;
+    }
+
+pub accepted-spec : {M : Type 1} → statement M
+accepted-spec = tie.close (tie.spec accept-requires stop-requires same-length returns)

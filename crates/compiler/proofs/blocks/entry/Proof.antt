@@ -1,0 +1,61 @@
+-- Two free rows, or a condition's. Assumes nothing.
+use native.Mathlib.Omega.{arith}
+use Rattle.compiler.proofs.Emission.{ready}
+use Rattle.compiler.proofs.Nesting.{entry-asks, choice-onward, choice-room, choice-room-then, choice-emitted}
+use borrow.Author.Needs.{needs}
+use Rattle.compiler.proofs.blocks.entry.Statement.{statement}
+use Rattle.compiler.proofs.blocks.entry.Tie as tie
+
+see-requires : tie.Need-see-requires
+see-requires c κs = search needs
+
+enum-told : tie.Need-enum-told
+enum-told c = search needs
+
+free-requires : tie.Need-free-requires
+free-requires c κs = choice-room (c .before .before .before .see .ensures) (c .before .before .before .before .before .before .pre .doing) (c .before .enum-told .given .1)
+
+free-requires-2 : tie.Need-free-requires-2
+free-requires-2 c κs =
+    choice-room-then (c .before .before .before .before .before .before .before .see .ensures) (c .before .before .before .before .before .before .before .before .before .before .pre .doing) (c .before .before .before .before .before .enum-told .given .1) (c .before .before .before .free .ensures)
+
+tested-requires : tie.Need-tested-requires
+tested-requires c κs = ready (entry-asks (c .before .before .see .ensures) (c .before .before .before .before .before .pre .doing) (c .before .match .keys2))
+
+same-length : tie.Need-same-length
+same-length c = search needs
+
+returns : tie.Need-returns
+returns c =
+    let sees = c .before .before .before .before .before .before .before .before .before .before .see .ensures in
+    let is = c .before .before .before .before .before .before .before .before .enum-told .given .1 in
+    let first = c .before .before .before .before .before .before .free .ensures in
+    let second = c .before .before .free2 .ensures in
+    record {
+      emits = λ d. choice-emitted sees d is first second;
+      onward = omega (arith, choice-onward sees (c .before .before .before .before .before .before .before .before .before .before .before .before .before .pre .doing) is);
+    }
+
+same-length-2 : tie.Need-same-length-2
+same-length-2 c = search needs
+
+returns-2 : tie.Need-returns-2
+returns-2 c =
+    let sees = c .before .before .before .before .before .see .ensures in
+    let other = c .before .before .before .before .match .keys2 in
+    let asked = c .before .before .tested .ensures in
+    record { emits = λ d. asked .emits (entry-asks sees d other); onward = asked .onward }
+
+pub entry-spec : {M : Type 1} → statement M
+entry-spec =
+    tie.close
+    (tie.spec
+    see-requires
+    enum-told
+    free-requires
+    free-requires-2
+    tested-requires
+    same-length
+    returns
+    same-length-2
+    returns-2)
