@@ -15,7 +15,7 @@ use Rattle.io.specs.Digits as Io
 use Rattle.io.specs.Digits.{Fewest}
 use Rattle.bits.specs.Byte.{spelling}
 use Rattle.table.specs.Image.{encode}
-use Rattle.compiler.specs.Construction.{construct}
+use Rattle.construction.specs.Construction.{construct}
 use Rattle.compiler.specs.Compile.{Compiled}
 use Rattle.compiler.specs.Line.{digits, decimal, line}
 use Rattle.compiler.specs.declared.Answer.the-variants as Answer
