@@ -1,0 +1,5 @@
+-- Bytes are a well-formed image exactly if each part of them is right; laws of checking.
+pub mod Telling
+pub mod Framing
+pub mod Decided
+pub mod Checks
