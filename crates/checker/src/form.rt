@@ -45,6 +45,7 @@ fn head_right(image: &[u8]) -> bool
 
 // Tags 3 and 4: 0 or 1, and 1 to 128 states.
 fn middle_right(image: &[u8]) -> bool
+    requires { ⌜ lettersOf (now image) ≤ 16 ⌝ }
     ensures { λ r. ⌜ Tells r (MiddleRight (now (image .entry))) ⌝ }
 {
     let k = letter_count(image);
@@ -63,6 +64,7 @@ fn middle_right(image: &[u8]) -> bool
 
 // Tags 5 and 6: 16 bytes, then at most 1,024 whole rows, and nothing after them.
 fn tail_right(image: &[u8]) -> bool
+    requires { ⌜ lettersOf (now image) ≤ 16 ⌝ }
     ensures { λ r. ⌜ Tells r (TailRight (now (image .entry))) ⌝ }
 {
     let k = letter_count(image);

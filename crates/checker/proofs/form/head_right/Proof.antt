@@ -7,11 +7,8 @@ use borrow.Author.Needs.{needs}
 use Rattle.checker.proofs.form.head_right.Statement.{statement}
 use Rattle.checker.proofs.form.head_right.Tie as tie
 
-letters-requires : tie.Need-letters-requires
-letters-requires c κs = search needs
-
-cast-k : tie.Need-cast-k
-cast-k c = search needs
+letter-count-requires : tie.Need-letter-count-requires
+letter-count-requires c κs = search needs
 
 field-at-requires : tie.Need-field-at-requires
 field-at-requires c κs = search needs
@@ -29,11 +26,11 @@ field-at-requires-2 : tie.Need-field-at-requires-2
 field-at-requires-2 c κs = search needs
 
 returns-3 : tie.Need-returns-3
-returns-3 c = refuted (rw (c .before .before .before .before .before .before .letters .ensures) at (c .before .field-at2 .ensures)) (c .if3 .taken) (λ h. h .second)
+returns-3 c = refuted (rw (c .before .before .before .before .before .before .letter-count .ensures) at (c .before .field-at2 .ensures)) (c .if3 .taken) (λ h. h .second)
 
 returns-4 : tie.Need-returns-4
 returns-4 c =
-    let letters = c .before .before .before .before .before .before .before .letters .ensures in
+    let letters = c .before .before .before .before .before .before .before .letter-count .ensures in
     record {
       holds = λ e. record {
         first = kept (c .before .before .before .before .before .before .field-at .ensures) (c .before .before .before .before .before .if1 .left);
@@ -46,14 +43,13 @@ returns-4 c =
     }
 
 returns-5 : tie.Need-returns-5
-returns-5 c = tells-no (lt-leb _ _ (c .if4 .left)) (λ h. omega (arith, c .before .before .before .before .before .before .before .letters .ensures, c .if4 .left, h .someLetter))
+returns-5 c = tells-no (lt-leb _ _ (c .if4 .left)) (λ h. omega (arith, c .before .before .before .before .before .before .before .letter-count .ensures, c .if4 .left, h .someLetter))
 
 pub head-right-spec : {M : Type 1} → statement M
 head-right-spec =
     tie.close
     (tie.spec
-    letters-requires
-    cast-k
+    letter-count-requires
     field-at-requires
     returns
     byte-at-requires

@@ -8,11 +8,8 @@ use borrow.Author.Needs.{needs}
 use Rattle.checker.proofs.form.middle_right.Statement.{statement}
 use Rattle.checker.proofs.form.middle_right.Tie as tie
 
-letters-requires : tie.Need-letters-requires
-letters-requires c κs = search needs
-
-cast-k : tie.Need-cast-k
-cast-k c = search needs
+letter-count-requires : tie.Need-letter-count-requires
+letter-count-requires c κs = search needs
 
 state-count-requires : tie.Need-state-count-requires
 state-count-requires c κs = search needs
@@ -24,7 +21,7 @@ field-at-requires : tie.Need-field-at-requires
 field-at-requires c κs = search needs
 
 returns : tie.Need-returns
-returns c = refuted (rw (c .before .before .before .letters .ensures) at (c .before .field-at .ensures)) (c .if1 .taken) (λ h. h .third)
+returns c = refuted (rw (c .before .before .before .letter-count .ensures) at (c .before .field-at .ensures)) (c .if1 .taken) (λ h. h .third)
 
 add-byte-at : tie.Need-add-byte-at
 add-byte-at c = search needs
@@ -34,7 +31,7 @@ byte-at-requires c κs = search needs
 
 returns-2 : tie.Need-returns-2
 returns-2 c =
-    tells-no refl (λ h. omega (arith, (rw (c .before .before .before .before .before .letters .ensures) at (c .before .byte-at .ensures)), c .if2 .taken, h .flag))
+    tells-no refl (λ h. omega (arith, (rw (c .before .before .before .before .before .letter-count .ensures) at (c .before .byte-at .ensures)), c .if2 .taken, h .flag))
 
 add-field-at-2 : tie.Need-add-field-at-2
 add-field-at-2 c = search needs
@@ -43,12 +40,12 @@ field-at-requires-2 : tie.Need-field-at-requires-2
 field-at-requires-2 c κs = search needs
 
 returns-3 : tie.Need-returns-3
-returns-3 c = refuted (rw (c .before .before .before .before .before .before .before .letters .ensures) at (c .before .field-at2 .ensures)) (c .if3 .taken) (λ h. h .fourth)
+returns-3 c = refuted (rw (c .before .before .before .before .before .before .before .letter-count .ensures) at (c .before .field-at2 .ensures)) (c .if3 .taken) (λ h. h .fourth)
 
 returns-4 : tie.Need-returns-4
 unfolding tableOf
 returns-4 c =
-    let letters = c .before .before .before .before .before .before .before .before .letters .ensures in
+    let letters = c .before .before .before .before .before .before .before .before .letter-count .ensures in
     let states = c .before .before .before .before .before .before .before .state-count .ensures in
     record {
       holds = λ e. record {
@@ -69,8 +66,7 @@ pub middle-right-spec : {M : Type 1} → statement M
 middle-right-spec =
     tie.close
     (tie.spec
-    letters-requires
-    cast-k
+    letter-count-requires
     state-count-requires
     add-field-at
     field-at-requires

@@ -7,11 +7,8 @@ use borrow.Author.Needs.{needs}
 use Rattle.checker.proofs.form.tail_right.Statement.{statement}
 use Rattle.checker.proofs.form.tail_right.Tie as tie
 
-letters-requires : tie.Need-letters-requires
-letters-requires c κs = search needs
-
-cast-k : tie.Need-cast-k
-cast-k c = search needs
+letter-count-requires : tie.Need-letter-count-requires
+letter-count-requires c κs = search needs
 
 row-count-requires : tie.Need-row-count-requires
 row-count-requires c κs = search needs
@@ -26,7 +23,7 @@ field-at-requires : tie.Need-field-at-requires
 field-at-requires c κs = search needs
 
 returns-2 : tie.Need-returns-2
-returns-2 c = refuted (rw (c .before .before .before .before .letters .ensures) at (c .before .field-at .ensures)) (c .if2 .taken) (λ h. h .fifth)
+returns-2 c = refuted (rw (c .before .before .before .before .letter-count .ensures) at (c .before .field-at .ensures)) (c .if2 .taken) (λ h. h .fifth)
 
 add-field-at-2 : tie.Need-add-field-at-2
 add-field-at-2 c = search needs
@@ -48,7 +45,7 @@ add-result-2 c = search needs
 
 returns-3 : tie.Need-returns-3
 returns-3 c =
-    let letters = c .before .before .before .before .before .before .letters .ensures in
+    let letters = c .before .before .before .before .before .before .letter-count .ensures in
     let rows = c .before .before .before .before .before .row-count .ensures in
     record {
       holds = λ e. record {
@@ -62,14 +59,13 @@ returns-3 c =
 
 returns-4 : tie.Need-returns-4
 returns-4 c =
-    tells-no (c .if3 .left) (λ h. c .before .field-at2 .ensures .fails (c .if3 .left) (rw (c .before .before .before .before .before .before .letters .ensures, c .before .before .before .before .before .row-count .ensures) (h .sixth)))
+    tells-no (c .if3 .left) (λ h. c .before .field-at2 .ensures .fails (c .if3 .left) (rw (c .before .before .before .before .before .before .letter-count .ensures, c .before .before .before .before .before .row-count .ensures) (h .sixth)))
 
 pub tail-right-spec : {M : Type 1} → statement M
 tail-right-spec =
     tie.close
     (tie.spec
-    letters-requires
-    cast-k
+    letter-count-requires
     row-count-requires
     returns
     add-field-at

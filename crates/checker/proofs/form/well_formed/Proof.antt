@@ -15,13 +15,13 @@ returns : tie.Need-returns
 returns c = refuted (c .before .head-right .ensures) (c .if1 .taken) (λ w. image-head (w .1))
 
 middle-right-requires : tie.Need-middle-right-requires
-middle-right-requires c κs = search needs
+middle-right-requires c κs = kept (c .before .head-right .ensures) (c .if1 .left) .fewLetters
 
 returns-2 : tie.Need-returns-2
 returns-2 c = refuted (c .before .middle-right .ensures) (c .if2 .taken) (λ w. image-middle (w .1))
 
 tail-right-requires : tie.Need-tail-right-requires
-tail-right-requires c κs = search needs
+tail-right-requires c κs = kept (c .before .before .before .head-right .ensures) (c .before .before .if1 .left) .fewLetters
 
 returns-3 : tie.Need-returns-3
 returns-3 c = refuted (c .before .tail-right .ensures) (c .if3 .taken) (λ w. image-tail (w .1))
