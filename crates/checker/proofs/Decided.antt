@@ -20,7 +20,8 @@ use Rattle.table.proofs.Reading.{alphabet-length, part-bytes, accept-past}
 use Rattle.checker.proofs.Framing.{framed-image}
 use Rattle.table.proofs.Encoded.{image-table, image-tail}
 use Rattle.table.proofs.RowList.{rows-length, rows-in, rows-number}
-use Rattle.table.proofs.Places.{place-of, member-at, nodup-of, of-nodup}
+use Rattle.table.proofs.Places.{place-of, member-at}
+use Rattle.checker.proofs.Different.{nodup-of, of-nodup}
 
 -- every letter is right, no state that does not exist accepts, every row is in range
 abbrev pub LettersRight : List ℕ → Type 0

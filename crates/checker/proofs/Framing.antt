@@ -11,8 +11,8 @@ use Rattle.bits.specs.Bit.{Bytes}
 use Rattle.table.specs.Image.{twoBytes, rowsBytes, flag, edition, encode}
 use Rattle.table.specs.Fields.{byteAt, twoAt, lettersOf, rowCount, rowsFrom, tableOf, HeadRight, MiddleRight, TailRight}
 use Rattle.table.proofs.Image.{length-rows}
-use Rattle.table.proofs.Standing.{stands-of, take-bytes}
-use Rattle.table.proofs.RowList.{bytes-of-rows, length-rowsFrom}
+use Rattle.table.proofs.RowList.{length-rowsFrom}
+use Rattle.checker.proofs.Cut.{take-bytes, stands-of, bytes-of-rows}
 
 -- a flag is told by its byte
 flag-of : (b : ℕ) → b ≤ 1 → flag (eqb b 1) ≡ b
