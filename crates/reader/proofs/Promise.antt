@@ -69,13 +69,13 @@ module _ (text : List ℕ) where
           }
 
   single-reasons : Each Single (reasons text)
-  single-reasons = (single-at-zero, single-text programStates programRows)
+  single-reasons = (single-at-zero, single-text text programStates programRows)
 
   -- none holds of a text that is taken
   no-reason : {a b : ℕ} → Whole text a b → Each (Gives (λ n p. ⊥)) (reasons text)
   no-reason w = (
     λ n p h. omega (arith, h .1 .1, w .short),
-    no-text programStates programRows (w .reads) (omega (arith, w .statesAre, w .fewStates)) (omega (arith, w .rowsAre, w .fewRows)),
+    no-text text programStates programRows (w .reads) (omega (arith, w .statesAre, w .fewStates)) (omega (arith, w .rowsAre, w .fewRows)),
   )
 
   whole-once : {a b c d : ℕ} → Whole text a b → Whole text c d → Taken a b ≡ Taken c d
