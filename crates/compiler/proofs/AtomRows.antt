@@ -11,10 +11,10 @@ use lib.Seq.{take-suc, getD-append-add, take-all}
 use lib.Dec.{eqb}
 use borrow.Author.Tests.{eq-eqb, ne-eqb}
 use Rattle.table.specs.Table.{Row}
-use Rattle.compiler.specs.Construction.{testRow, eitherCounter, countUp, allSymbols, without, symbolRows}
+use Rattle.construction.specs.Construction.{testRow, eitherCounter, countUp, allSymbols, without, symbolRows}
 use Rattle.compiler.specs.Writing.{Sheet, Filled, Room, Writes, Counts}
 use Rattle.compiler.specs.Atoms.{counterRows, readRows}
-use Rattle.compiler.proofs.Symbols.{length-countUp, length-symbols}
+use Rattle.construction.proofs.Symbols.{length-countUp, length-symbols}
 
 -- the symbols by their number
 countUp-at : (many n i : ℕ) → i < many → getD (countUp n many) i 0 ≡ n + i

@@ -14,7 +14,7 @@ use Rattle.text.specs.declared.Sign.the-variants as Sign
 use Rattle.rule.specs.Tree.{Sought, letter, Atom}
 use Rattle.rule.specs.Tree as Tree
 use Rattle.rule.specs.Grammar.{Ts, IsSought, aLetter, lend, rend, IsAtom, readIs, readIsNot, counterIs, counterIsNot}
-use Rattle.compiler.specs.Construction.{indexIn, symbolCode, atomRows}
+use Rattle.construction.specs.Construction.{indexIn, symbolCode, atomRows}
 use Rattle.compiler.specs.Seeing as Seen
 use Rattle.compiler.specs.Seeing.{Here, SeenAs}
 use Rattle.compiler.specs.Atoms.{counterRows, readRows, Compares}

@@ -18,13 +18,13 @@ use Rattle.rule.proofs.Bounds.{fault-bounds}
 use Rattle.rule.proofs.Reasons.{single-text, no-text}
 use Rattle.reader.specs.Reading.{reasons as readingReasons, Whole, ReadsTo}
 use Rattle.reader.specs.declared.Reading.the-variants as Reading
-use Rattle.compiler.specs.Construction.{programPart, construct}
+use Rattle.construction.specs.Construction.{programPart, construct}
 use Rattle.compiler.specs.Compile.{imageRoom, reasons, answerNumber, Compiled, Refused, Compiles, CompilesTo}
 use Rattle.compiler.specs.Setting.{Fits, Emittable, Images}
 use Rattle.compiler.specs.declared.Answer.{Answer}
 use Rattle.compiler.specs.declared.Answer.the-variants as Answer
-use Rattle.compiler.proofs.Counts.{states-formula, rows-formula}
-use Rattle.compiler.proofs.Agree.{agree}
+use Rattle.construction.proofs.Counts.{states-formula, rows-formula}
+use Rattle.construction.proofs.Agree.{agree}
 use Rattle.compiler.proofs.Writing.{length-accept}
 use Rattle.compiler.proofs.Setting.{program-letter}
 

@@ -7,7 +7,7 @@ use lib.ListN.{length, length-append}
 use Rattle.text.specs.Tokens.{Placed}
 use Rattle.table.specs.Table.{Row}
 use Rattle.rule.specs.Grammar.{Ts}
-use Rattle.compiler.specs.Construction.{Part}
+use Rattle.construction.specs.Construction.{Part}
 use Rattle.compiler.specs.Writing.{Sheet, Held, Filled, Room, Writes}
 use Rattle.compiler.specs.Seeing.{Here, Reaches, Passes}
 use Rattle.compiler.specs.Emission.{At, Task, Doing, Ready, Emitted, rowsPart}

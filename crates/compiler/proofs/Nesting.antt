@@ -21,13 +21,13 @@ use Rattle.rule.specs.Grammar.{Ts, block}
 use Rattle.rule.proofs.Invert.{If, alone, orElse, statement-if, While, statement-while}
 use Rattle.rule.proofs.Invert as Invert
 use Rattle.rule.proofs.Within.{StatementWithin}
-use Rattle.compiler.specs.Construction.{free, Part, test, ifPart, loopPart, andThen, statementPart, statementsPart}
+use Rattle.construction.specs.Construction.{free, Part, test, ifPart, loopPart, andThen, statementPart, statementsPart}
 use Rattle.compiler.specs.Writing.{Sheet, Filled, Room, Writes}
 use Rattle.compiler.specs.Seeing.{Here, Behind, SeenAs, Sees, Passes}
 use Rattle.compiler.specs.Emission.{At, Task, Doing, Emitted, rowsPart, TestTask, tests, EntryTask, chooses, asks, Follows, HeadedTask, RestTask, theRest, closedPart, BodyTask, aBody, ElseTask, noElse, anElse}
 use Rattle.compiler.specs.declared.Place.{Place}
 use Rattle.compiler.specs.declared.see.Seen.{Seen}
-use Rattle.compiler.proofs.Counts.{test-next, statements-next}
+use Rattle.construction.proofs.Counts.{test-next, statements-next}
 use Rattle.compiler.proofs.Tags.{wordTag, wordTags, none-of}
 use Rattle.compiler.proofs.Seeing.{here-some, seen-word, word-at}
 use Rattle.compiler.proofs.Emission.{

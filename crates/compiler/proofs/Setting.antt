@@ -33,7 +33,7 @@ use Rattle.rule.specs.Grammar.{
   program,
 }
 use Rattle.rule.proofs.Within.{length-letterBytes, program-within}
-use Rattle.compiler.specs.Construction.{programPart, construct}
+use Rattle.construction.specs.Construction.{programPart, construct}
 use Rattle.compiler.specs.Compile.{imageRoom}
 use Rattle.compiler.specs.Writing.{acceptBytes, written, rowPlace, Holds, over, Heads}
 use Rattle.compiler.specs.Seeing as Seen

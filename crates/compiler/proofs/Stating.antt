@@ -21,13 +21,13 @@ use Rattle.rule.specs.Grammar as Grammar
 use Rattle.rule.specs.Grammar.{Ts, IsStatement, IsStatements}
 use Rattle.rule.proofs.Invert.{Stop, stops, statement-accept, statement-reject, If, While, Branch, rest-else, rest-also, Closed, closed, rest-brace}
 use Rattle.rule.proofs.Within.{StatementsWithin}
-use Rattle.compiler.specs.Construction.{Part, andThen, statementPart, statementsPart}
+use Rattle.construction.specs.Construction.{Part, andThen, statementPart, statementsPart}
 use Rattle.compiler.specs.Writing.{Sheet, Holds, Filled, Marks}
 use Rattle.compiler.specs.Seeing.{Here, SeenAs, Sees}
 use Rattle.compiler.specs.Emission.{At, Doing, Emitted, rowsPart, Follows, StatementTask, aStatement, HeadedTask, headed, Stops, RestTask, theRest, noElse}
 use Rattle.compiler.specs.declared.Place.{Place}
 use Rattle.compiler.specs.declared.see.Seen.{Seen}
-use Rattle.compiler.proofs.Counts.{statements-next}
+use Rattle.construction.proofs.Counts.{statements-next}
 use Rattle.compiler.proofs.Tags.{wordTag, signTag, wordTags, signTags, none-of}
 use Rattle.compiler.proofs.Seeing.{here-some, seen-word, seen-sign, SignAt, sign-at}
 use Rattle.compiler.proofs.Emission.{at-moved, fits-first, fits-then, emitted-as}

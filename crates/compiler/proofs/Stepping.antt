@@ -19,7 +19,7 @@ use Rattle.rule.specs.Tree.{Plain, Statement}
 use Rattle.rule.specs.Grammar.{Ts, IsStatement}
 use Rattle.rule.proofs.Invert.{PlainOf, Move, forward, back, Goto, toLend, toRend, Change, up, down, upBy, downBy, statement-move, statement-goto, statement-change}
 use Rattle.rule.proofs.Within.{PlainWithin, StatementWithin}
-use Rattle.compiler.specs.Construction.{moveCode, changeCode, Part, statementPart}
+use Rattle.construction.specs.Construction.{moveCode, changeCode, Part, statementPart}
 use Rattle.compiler.specs.Writing.{Sheet, Filled, Room}
 use Rattle.compiler.specs.Seeing.{Here, Sees, Passes, Digits}
 use Rattle.compiler.specs.Emission.{Task, Doing, Emitted, Follows, aStatement, HeadedTask, headed, stepRow, Steps}

@@ -20,7 +20,7 @@ use Rattle.table.specs.Table.{Row}
 use Rattle.rule.specs.Tree.{Atom, Condition}
 use Rattle.rule.specs.Grammar.{Ts, IsAtom, readIs, readIsNot, counterIs, counterIsNot, Binding, loosest, tightest, IsCondition, atom, parens, negation, tighter, both, tight, either}
 use Rattle.rule.proofs.Within.{ConditionWithin}
-use Rattle.compiler.specs.Construction.{Part, symbolCode, atomRows, Added, walk, oneAfterOther, oneOrOther, test}
+use Rattle.construction.specs.Construction.{Part, symbolCode, atomRows, Added, walk, oneAfterOther, oneOrOther, test}
 use Rattle.compiler.specs.Writing.{Sheet, Filled, Room, Writes}
 use Rattle.compiler.specs.Seeing.{Here, SeenAs, Sees, Passes}
 use Rattle.compiler.specs.Atoms.{counterRows, readRows, Codes, Compares}
@@ -29,7 +29,7 @@ use Rattle.compiler.specs.Operators.{ahead, Ahead}
 use Rattle.compiler.specs.declared.Place.{Place}
 use Rattle.compiler.specs.declared.walk.Course.{Course}
 use Rattle.compiler.specs.declared.see.Seen.{Seen}
-use Rattle.compiler.proofs.Parts.{leads-walk}
+use Rattle.construction.proofs.Parts.{leads-walk}
 use Rattle.compiler.proofs.Tags.{wordTag, signTag, wordTags, signTags, none-of}
 use Rattle.compiler.proofs.Operators.{operator, join, no-operator, one-operator}
 use Rattle.compiler.proofs.Seeing.{here-some, seen-sign, SignAt, sign-at}

@@ -14,10 +14,10 @@ use Rattle.bits.specs.Bit.{withBit}
 use Rattle.table.specs.Table.{Row}
 use Rattle.table.specs.Image.{twoBytes, field, rowBytes, rowsBytes, flag, edition, encode}
 use Rattle.table.proofs.Image.{length-rows, length-field}
-use Rattle.compiler.specs.Construction.{withBits, indexIn}
+use Rattle.construction.specs.Construction.{withBits, indexIn}
 use Rattle.compiler.specs.Compile.{imageRoom}
 use Rattle.compiler.specs.Writing.{Sheet, front, acceptBytes, written, rowPlace, Holds, over, Filled, Room, Writes, Marks, Heads, Counts}
-use Rattle.compiler.proofs.SetBit.{new, length-withBits}
+use Rattle.construction.proofs.SetBit.{new, length-withBits}
 
 regroup : (a b c d : List ℕ) → (a ++ (b ++ c)) ++ d ≡ a ++ (b ++ (c ++ d))
 regroup a b c d = simp append-assoc

@@ -8,7 +8,7 @@ use Rattle.text.specs.Tokens.{_at_}
 use Rattle.table.specs.Table.{Row}
 use Rattle.rule.specs.Tree.{Sought}
 use Rattle.rule.specs.Grammar.{Ts, IsSought}
-use Rattle.compiler.specs.Construction.{anySymbol, testRow, symbolCode, allSymbols, without, symbolRows}
+use Rattle.construction.specs.Construction.{anySymbol, testRow, symbolCode, allSymbols, without, symbolRows}
 use Rattle.compiler.specs.Writing.{Sheet, Holds}
 use Rattle.compiler.specs.Seeing.{Here}
 

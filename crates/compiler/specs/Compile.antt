@@ -10,7 +10,8 @@ use Rattle.machine.specs.Run.{Accepts}
 use Rattle.rule.specs.Tree.{Program}
 use Rattle.rule.specs.Faults.{FirstFault, Reads, TooMany}
 use Rattle.rule.specs.Meaning.{ProgramAccepts}
-use Rattle.compiler.specs.Construction.{construct}
+use Rattle.construction.specs.Construction.{construct}
+use Rattle.construction.specs.Agreement.{Agree}
 use Rattle.compiler.specs.declared.Answer.{Answer}
 use Rattle.compiler.specs.declared.Answer.the-variants as Answer
 
@@ -34,13 +35,6 @@ pub record Compilable (text : List ℕ) (p : Program) : Type 0 where
   pub reads : Reads text p
   pub states : construct p .states ≤ 128
   pub rows : length (construct p .rows) ≤ 1024
-
--- table and program agree: for every word of its letters and every limit, one has an accepting run within it exactly when the other has
-abbrev pub Agree : Program → Type 0
-Agree p =
-    (word : List ℕ) (limit : ℕ)
-    → ((i : ℕ) → i < length word → List·Memᴰ (getD word i 0) (construct p .alphabet))
-    → Accepts (construct p) word limit ↔ ProgramAccepts p word limit
 
 -- the answer as one number, for C
 unfoldable pub answerNumber : Answer → ℕ

@@ -22,7 +22,7 @@ use Rattle.rule.specs.Grammar.{
   IsStatements,
 }
 use Rattle.rule.proofs.Within.{AtomWithin, ConditionWithin, StatementWithin, StatementsWithin, ArmsWithin}
-use Rattle.compiler.specs.Construction.{
+use Rattle.construction.specs.Construction.{
   anySymbol,
   eitherCounter,
   free,

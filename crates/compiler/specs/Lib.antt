@@ -1,5 +1,4 @@
--- What table a program has, and what compiling promises.
-pub mod Construction
+-- What compiling promises, and what the emitter's functions promise each other.
 pub mod Compile
 pub mod Line
 pub mod Seeing

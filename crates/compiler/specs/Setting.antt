@@ -10,7 +10,7 @@ use Rattle.table.specs.Image.{encode}
 use Rattle.rule.specs.Tree.{Letter, Program, letterBytes}
 use Rattle.rule.specs.Grammar.{Ts, IsLetters, IsDecrement, IsSettings}
 use Rattle.rule.specs.Faults.{Reads}
-use Rattle.compiler.specs.Construction.{programPart, construct}
+use Rattle.construction.specs.Construction.{programPart, construct}
 use Rattle.compiler.specs.Compile.{imageRoom}
 use Rattle.compiler.specs.Writing.{Sheet, over}
 use Rattle.compiler.specs.Seeing.{Here}

@@ -6,7 +6,7 @@ use mathlib.Core.List.{List, [], _∷_, _++_}
 use lib.ListN.{length, take, drop, replicate}
 use Rattle.table.specs.Table.{Row}
 use Rattle.table.specs.Image.{twoBytes, field, rowsBytes, flag, edition}
-use Rattle.compiler.specs.Construction.{withBits, indexIn}
+use Rattle.construction.specs.Construction.{withBits, indexIn}
 use Rattle.compiler.specs.Compile.{imageRoom}
 
 -- what is settled before the first row is written: the buffer as it was, what the header says, and how many rows there will be

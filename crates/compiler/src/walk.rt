@@ -4,7 +4,7 @@ ghost use mathlib.Core.Path.{_≡_};
 ghost use mathlib.Core.List.{List, [], _∷_};
 ghost use lib.ListN.{length, getD};
 ghost use Prim.Native.Nat.{ℕ};
-ghost use Rattle.compiler.specs.Construction.{allSymbols, without, symbolRows};
+ghost use Rattle.construction.specs.Construction.{allSymbols, without, symbolRows};
 ghost use Rattle.compiler.specs.Writing.{Held, Room, Writes};
 ghost use Rattle.compiler.specs.Atoms.{counterRows, readRows, Codes, Compares};
 ghost use Rattle.compiler.specs.Emission.{Ready, Emits, AtomTask, WalkTask, joins, joined, takes, Goes, TestTask};

@@ -6,7 +6,7 @@ ghost use mathlib.Core.List.{[], _∷_};
 ghost use lib.ListN.{length};
 ghost use Rattle.table.specs.Image.{flag};
 ghost use Rattle.compiler.specs.Compile.{imageRoom};
-ghost use Rattle.compiler.specs.Construction.{testRow, free};
+ghost use Rattle.construction.specs.Construction.{testRow, free};
 ghost use Rattle.compiler.specs.Writing.{over, Held, Room, Writes, Marks, Heads, Indexes, Counts};
 
 // The two bytes of a number.

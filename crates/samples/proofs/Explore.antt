@@ -1,22 +1,22 @@
 -- All that the runs of a table on a word reach within a limit, by computing it, with the proof that this is all.
-use Prim.Native.Nat.{ℕ, zero, suc, _≤_, _<_}
-use mathlib.Core.Path.{_≡_, refl, sym, subst, subst₂}
-use mathlib.Core.Logic.{_⊎_, ⊎-elim, ∥∥₁-elim}
+use Prim.Native.Nat.{ℕ, zero, suc, _≤_, _<_, _*_}
+use mathlib.Core.Path.{_≡_, refl, sym, _∙_, ap, subst, subst₂}
+use mathlib.Core.Logic.{_⊎_, inl, inr, ⊎-elim, ∥∥₁-elim}
 use mathlib.Core.HLevel.{⊥-prop}
 use mathlib.Core.Bool.{Bool, true, false, not, _&&_, _||_}
 use mathlib.Core.Option.{Option, none, some}
-use mathlib.Core.List.{List, [], _∷_, _++_, List·Memᴰ, List·Memᴰ·head, List·Memᴰ·tail, List·Memᴰ·cases-cons, List·Memᴰ·not-nil, List·Nodup, nodup-cons, nodup-nil}
+use mathlib.Core.List.{List, [], _∷_, _++_, map, List·Memᴰ, List·Memᴰ·head, List·Memᴰ·tail, List·Memᴰ·cases-cons, List·Memᴰ·not-nil, List·Nodup, nodup-cons, nodup-nil}
 use lib.Dec.{T, T-not, leb, ltb, eqb, leb→le, le→leb, eqb→eq, eqb-refl, ltb→lt, lt→ltb}
 use lib.ListN.{length}
 use Rattle.bits.specs.Bit.{bit}
 use Rattle.bits.specs.Size.{Size}
-use Rattle.table.specs.Table.{Row, Table}
-use Rattle.machine.specs.Cell.{moved}
-use Rattle.machine.specs.Step.{Situation, Takes, rowFits, changed}
+use Rattle.table.specs.Table.{Row, Table, Accepting}
+use Rattle.machine.specs.Cell.{moved, symbolOn}
+use Rattle.machine.specs.Step.{Situation, Takes, Step, rowFits, changed, symbolFits, counterFits}
 use Rattle.machine.specs.Run.{start, Reach, begins, goes, Accepts, Passes}
 use Rattle.judge.specs.Verdict.{Verdict, Yes, No, LimitMet, IsVerdict}
 use Rattle.bits.proofs.Tests.{every, every-at, and-left, and-right, and-of, or-left, or-right, or-cases}
-use Rattle.samples.proofs.Decide.{passed}
+use Rattle.samples.proofs.Decide.{_>>=_, passed}
 
 abbrev sameSituation : Situation → Situation → Bool
 sameSituation a b = eqb (a .state) (b .state) && (eqb (a .cell) (b .cell) && eqb (a .counter) (b .counter))

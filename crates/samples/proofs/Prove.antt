@@ -1,7 +1,7 @@
 -- A line of samples, proved by computing it: from its text through tokens, grammar, limits and construction to image bytes and runs.
 use Prim.Native.Nat.{ℕ, _≤_, _<_}
 use mathlib.Core.Path.{_≡_, refl, subst, subst₂}
-use mathlib.Core.Logic.{inl, inr}
+use mathlib.Core.Logic.{_⊎_, inl, inr}
 use mathlib.Core.Bool.{Bool, true, _&&_}
 use mathlib.Core.Option.{Option, none, some}
 use mathlib.Core.List.{List, [], _∷_}
@@ -26,13 +26,13 @@ use Rattle.rule.specs.Inside.Machine.{Outcome, taken, refused, outcome}
 use Rattle.rule.proofs.Steps.{begin, eat}
 use Rattle.rule.proofs.Complete.{built}
 use Rattle.rule.proofs.Outcomes.{built-program, refused-fault}
-use Rattle.compiler.specs.Construction.{construct}
+use Rattle.construction.specs.Construction.{construct}
 use Rattle.compiler.specs.declared.Answer.the-variants as Answer
 use Rattle.compiler.specs.Compile.{Compilable, reasons, imageRoom}
 use Rattle.compiler.specs.Line.{line}
 use Rattle.samples.specs.Sample as Sample
 use Rattle.samples.specs.Sample.{Finding, prints, has, image, row, judged, Sample, compiles, refuses, onlyRow, FindingHolds, AllHold, Holds, EachHolds}
-use Rattle.samples.proofs.Decide.{found, it, equal, atMost, equalLists, empty}
+use Rattle.samples.proofs.Decide.{_>>=_, found, it, equal, atMost, equalLists, empty}
 use Rattle.samples.proofs.Explore.{Explored, explore, size-of, decideVerdict}
 
 -- the text's program, if it is one without faults

@@ -20,7 +20,7 @@ use Rattle.rule.specs.Limits.{
   plainFaults,
   statementsFaults,
 }
-use Rattle.compiler.specs.Construction.{
+use Rattle.construction.specs.Construction.{
   construct,
   programPart,
   statementsPart,

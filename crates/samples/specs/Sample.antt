@@ -12,7 +12,7 @@ use Rattle.table.specs.Refusal.{First}
 use Rattle.machine.specs.Run.{Reach}
 use Rattle.judge.specs.Verdict.{Verdict, IsVerdict}
 use Rattle.rule.specs.Tree.{Program}
-use Rattle.compiler.specs.Construction.{construct}
+use Rattle.construction.specs.Construction.{construct}
 use Rattle.compiler.specs.declared.Answer.the-variants as Answer
 use Rattle.compiler.specs.Compile.{Compilable, reasons, imageRoom}
 use Rattle.compiler.specs.Line.{line}

@@ -18,8 +18,9 @@ use Rattle.judge.specs.Judge.{Judgeable, Answer, judged, refused, answerNumber,
 use Rattle.judge.proofs.Verdict.{verdict-once, count-at-most}
 use Rattle.judge.proofs.Judges.{no-reason, reasons-numbered}
 use Rattle.rule.specs.Tree.{Program, letterBytes}
-use Rattle.compiler.specs.Construction.{construct}
-use Rattle.compiler.specs.Compile.{Compiled, Agree}
+use Rattle.construction.specs.Construction.{construct}
+use Rattle.construction.specs.Agreement.{Agree}
+use Rattle.compiler.specs.Compile.{Compiled}
 use Rattle.whole.specs.Grant.{Grants, Deserves}
 use Rattle.whole.proofs.Alphabet.{compiled-image}
 

@@ -43,7 +43,7 @@ use Rattle.rule.specs.Tree.{
   lastArm,
   moreArms,
 }
-use Rattle.compiler.specs.Construction.{
+use Rattle.construction.specs.Construction.{
   testRow,
   symbolRows,
   atomRows,
@@ -62,9 +62,9 @@ use Rattle.compiler.specs.Construction.{
   statementsPart,
   armsPart,
 }
-use Rattle.compiler.proofs.Every.{Every, every-nil, every-cons}
-use Rattle.compiler.proofs.Counts.{test-next}
-use Rattle.compiler.proofs.Own.{
+use Rattle.construction.proofs.Every.{Every, every-nil, every-cons}
+use Rattle.construction.proofs.Counts.{test-next}
+use Rattle.construction.proofs.Own.{
   Own,
   start,
   own-inside,

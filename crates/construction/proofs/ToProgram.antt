@@ -43,7 +43,7 @@ use Rattle.rule.specs.Meaning.{
   otherArm,
 }
 use Rattle.rule.proofs.Within.{ConditionWithin, StatementWithin, StatementsWithin, ArmsWithin}
-use Rattle.compiler.specs.Construction.{
+use Rattle.construction.specs.Construction.{
   free,
   Added,
   Part,
@@ -56,9 +56,9 @@ use Rattle.compiler.specs.Construction.{
   statementsPart,
   armsPart,
 }
-use Rattle.compiler.proofs.Every.{Every, every-nil, every-cons, every-append}
-use Rattle.compiler.proofs.Trial.{Trial}
-use Rattle.compiler.proofs.Roles.{
+use Rattle.construction.proofs.Every.{Every, every-nil, every-cons, every-append}
+use Rattle.construction.proofs.Trial.{Trial}
+use Rattle.construction.proofs.Roles.{
   Role,
   leaves,
   testRoles,
@@ -73,7 +73,7 @@ use Rattle.compiler.proofs.Roles.{
   given-rest-two,
   given-rest-three,
 }
-use Rattle.compiler.proofs.Sound.{Sound, plain-sound, turn-sound, same-sound, Tested, tests-sound}
+use Rattle.construction.proofs.Sound.{Sound, plain-sound, turn-sound, same-sound, Tested, tests-sound}
 
 -- this state's role has an `accept` in front
 pub record Accepts (role : ℕ → Role) (s : ℕ) : Type 0 where

@@ -31,7 +31,7 @@ use Rattle.rule.specs.Tree.{
 use Rattle.rule.specs.Limits.{value}
 use Rattle.rule.specs.Meaning.{cellAfter, lowered, counterAfter}
 use Rattle.rule.proofs.Within.{PlainWithin, ConditionWithin}
-use Rattle.compiler.specs.Construction.{
+use Rattle.construction.specs.Construction.{
   anySymbol,
   noMove,
   noChange,
@@ -42,8 +42,8 @@ use Rattle.compiler.specs.Construction.{
   atomRows,
   walk,
 }
-use Rattle.compiler.proofs.Every.{Every, every-nil, every-cons}
-use Rattle.compiler.proofs.Codes.{walk-every}
+use Rattle.construction.proofs.Every.{Every, every-nil, every-cons}
+use Rattle.construction.proofs.Codes.{walk-every}
 
 module _ (word : List ℕ) where
   -- a move by code - 64

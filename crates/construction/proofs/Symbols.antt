@@ -32,7 +32,7 @@ use Rattle.machine.specs.Cell as Cell
 use Rattle.machine.specs.Cell.{Symbol}
 use Rattle.rule.specs.Tree.{Sought, letter, lend, rend}
 use Rattle.rule.proofs.Within.{SoughtWithin}
-use Rattle.compiler.specs.Construction.{
+use Rattle.construction.specs.Construction.{
   leftMark,
   rightMark,
   indexIn,

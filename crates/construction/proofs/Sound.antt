@@ -27,11 +27,11 @@ use Rattle.rule.specs.Tree.{
 }
 use Rattle.rule.specs.Meaning.{atomHolds, holds, Turns, does, turns, Comes, goes}
 use Rattle.rule.proofs.Within.{AtomWithin, ConditionWithin, PlainWithin}
-use Rattle.compiler.specs.Construction.{free, plainRow, atomRows, Added, Walk, oneAfterOther, oneOrOther, walk, test}
-use Rattle.compiler.proofs.Every.{Every, every-append}
-use Rattle.compiler.proofs.Effects.{plain-moves, plain-changes, Still}
-use Rattle.compiler.proofs.Atoms.{pass-atom}
-use Rattle.compiler.proofs.Conditions.{
+use Rattle.construction.specs.Construction.{free, plainRow, atomRows, Added, Walk, oneAfterOther, oneOrOther, walk, test}
+use Rattle.construction.proofs.Every.{Every, every-append}
+use Rattle.construction.proofs.Effects.{plain-moves, plain-changes, Still}
+use Rattle.construction.proofs.Atoms.{pass-atom}
+use Rattle.construction.proofs.Conditions.{
   turned,
   both-true,
   one-false,
@@ -41,8 +41,8 @@ use Rattle.compiler.proofs.Conditions.{
   still-changes,
   atom-between,
 }
-use Rattle.compiler.proofs.Trial.{Trial, comes-inside, comes-low}
-use Rattle.compiler.proofs.Roles.{Role, leaves, knows, walkRoles, testRoles, Given, given-first, given-rest}
+use Rattle.construction.proofs.Trial.{Trial, comes-inside, comes-low}
+use Rattle.construction.proofs.Roles.{Role, leaves, knows, walkRoles, testRoles, Given, given-first, given-rest}
 
 -- the program has come to what a role says, on this cell with this counter
 pub data Here (p : Program) (word : List ℕ) (limit : ℕ) : Role → ℕ → ℕ → Type 0 where

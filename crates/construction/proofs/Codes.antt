@@ -55,7 +55,7 @@ use Rattle.rule.proofs.Within.{
   StatementsWithin,
   ArmsWithin,
 }
-use Rattle.compiler.specs.Construction.{
+use Rattle.construction.specs.Construction.{
   anySymbol,
   testRow,
   free,
@@ -81,11 +81,11 @@ use Rattle.compiler.specs.Construction.{
   statementsPart,
   armsPart,
 }
-use Rattle.compiler.proofs.Symbols.{countUp-mem, without-mem, code-mem}
-use Rattle.compiler.proofs.Counts.{test-next, statements-next, arms-next}
-use Rattle.compiler.proofs.Every.{Every, every-nil, every-cons, every-append}
-use Rattle.compiler.proofs.Own.{own-below}
-use Rattle.compiler.proofs.Parts.{leads-walk, statement-lone}
+use Rattle.construction.proofs.Symbols.{countUp-mem, without-mem, code-mem}
+use Rattle.construction.proofs.Counts.{test-next, statements-next, arms-next}
+use Rattle.construction.proofs.Every.{Every, every-nil, every-cons, every-append}
+use Rattle.construction.proofs.Own.{own-below}
+use Rattle.construction.proofs.Parts.{leads-walk, statement-lone}
 
 -- with k letters
 pub record CodesIn (k : ℕ) (r : Row) : Type 0 where

@@ -12,12 +12,12 @@ use Rattle.table.specs.WellFormed.{RowInRange, InRange}
 use Rattle.rule.specs.Tree.{Program, letterBytes}
 use Rattle.rule.specs.Limits.{faults}
 use Rattle.rule.proofs.Within.{program-within, length-letterBytes}
-use Rattle.compiler.specs.Construction.{programPart, construct}
-use Rattle.compiler.proofs.Every.{Every, every-nil}
-use Rattle.compiler.proofs.Own.{Own, own-below, Laid}
-use Rattle.compiler.proofs.Parts.{statements-series}
-use Rattle.compiler.proofs.Codes.{Fine, statements-fine}
-use Rattle.compiler.proofs.SetBit.{bits-in, bits-only, bits-zero, length-withBits, bytes-withBits, bytes-zeros}
+use Rattle.construction.specs.Construction.{programPart, construct}
+use Rattle.construction.proofs.Every.{Every, every-nil}
+use Rattle.construction.proofs.Own.{Own, own-below, Laid}
+use Rattle.construction.proofs.Parts.{statements-series}
+use Rattle.construction.proofs.Codes.{Fine, statements-fine}
+use Rattle.construction.proofs.SetBit.{bits-in, bits-only, bits-zero, length-withBits, bytes-withBits, bytes-zeros}
 
 -- where a program's rows start and where it accepts
 pub program-laid :

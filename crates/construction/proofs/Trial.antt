@@ -13,9 +13,9 @@ use Rattle.rule.specs.Tree.{Statements, done, _then_, Program}
 use Rattle.rule.specs.Limits.{faults}
 use Rattle.rule.specs.Meaning.{_before_, Standing, does, turns, Comes, begins, goes}
 use Rattle.rule.proofs.Within.{program-within}
-use Rattle.compiler.specs.Construction.{construct}
-use Rattle.compiler.proofs.Symbols.{Known}
-use Rattle.compiler.proofs.Effects.{plain-inside}
+use Rattle.construction.specs.Construction.{construct}
+use Rattle.construction.proofs.Symbols.{Known}
+use Rattle.construction.proofs.Effects.{plain-inside}
 
 -- a program is tried against its table
 pub record Trial : Type 0 where

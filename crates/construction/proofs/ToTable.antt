@@ -54,7 +54,7 @@ use Rattle.rule.specs.Meaning.{
   ProgramAccepts,
 }
 use Rattle.rule.proofs.Within.{ConditionWithin, PlainWithin, StatementWithin, StatementsWithin, ArmsWithin}
-use Rattle.compiler.specs.Construction.{
+use Rattle.construction.specs.Construction.{
   free,
   plainRow,
   Walk,
@@ -68,10 +68,10 @@ use Rattle.compiler.specs.Construction.{
   statementsPart,
   armsPart,
 }
-use Rattle.compiler.proofs.Every.{Every}
-use Rattle.compiler.proofs.Effects.{plain-moves, plain-changes, Still}
-use Rattle.compiler.proofs.Atoms.{atom-pass}
-use Rattle.compiler.proofs.Conditions.{
+use Rattle.construction.proofs.Every.{Every}
+use Rattle.construction.proofs.Effects.{plain-moves, plain-changes, Still}
+use Rattle.construction.proofs.Atoms.{atom-pass}
+use Rattle.construction.proofs.Conditions.{
   turned,
   both-true,
   one-false,
@@ -81,8 +81,8 @@ use Rattle.compiler.proofs.Conditions.{
   still-changes,
   atom-between,
 }
-use Rattle.compiler.proofs.Trial.{Trial, comes-inside, comes-low}
-use Rattle.compiler.proofs.Fragments.{
+use Rattle.construction.proofs.Trial.{Trial, comes-inside, comes-low}
+use Rattle.construction.proofs.Fragments.{
   every-left,
   every-right,
   every-head,

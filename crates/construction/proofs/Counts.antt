@@ -47,7 +47,7 @@ use Rattle.rule.proofs.Within.{
   program-within,
   length-letterBytes,
 }
-use Rattle.compiler.specs.Construction.{
+use Rattle.construction.specs.Construction.{
   symbolRows,
   isNotRows,
   atomRows,
@@ -79,7 +79,7 @@ use Rattle.rule.specs.Counts.{
   armsRows,
   programRows,
 }
-use Rattle.compiler.proofs.Symbols.{length-others}
+use Rattle.construction.proofs.Symbols.{length-others}
 
 -- the states that a condition takes when walked with this sign: each operator takes one under one of the two signs
 unfoldable pub walkStates : Condition → Bool → ℕ

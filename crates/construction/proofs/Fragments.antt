@@ -31,7 +31,7 @@ use Rattle.rule.specs.Tree.{
 }
 use Rattle.rule.specs.Meaning.{_before_}
 use Rattle.rule.proofs.Within.{StatementWithin, StatementsWithin}
-use Rattle.compiler.specs.Construction.{
+use Rattle.construction.specs.Construction.{
   free,
   Added,
   Part,
@@ -43,7 +43,7 @@ use Rattle.compiler.specs.Construction.{
   statementsPart,
   armsPart,
 }
-use Rattle.compiler.proofs.Every.{Every}
+use Rattle.construction.proofs.Every.{Every}
 
 module _ {A : Type 0} {P : A → Type 0} where
   -- a property of every element of two lists together, for the first

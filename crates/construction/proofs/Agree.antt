@@ -10,15 +10,15 @@ use Rattle.rule.specs.Tree.{done, Program}
 use Rattle.rule.specs.Limits.{faults}
 use Rattle.rule.specs.Meaning.{ProgramAccepts}
 use Rattle.rule.proofs.Within.{program-within}
-use Rattle.compiler.specs.Construction.{programPart, construct}
-use Rattle.compiler.specs.Compile.{Agree}
-use Rattle.compiler.proofs.WellFormed.{accepts-listed, listed-accepts}
-use Rattle.compiler.proofs.Trial.{trial, before-done, begins-whole}
-use Rattle.compiler.proofs.Fragments.{Stands, atEnd, block-stands}
-use Rattle.compiler.proofs.ToTable.{to-table}
-use Rattle.compiler.proofs.Roles.{programRoles, roleOf, role-given, given-first, given-rest}
-use Rattle.compiler.proofs.Sound.{Here, comes, came}
-use Rattle.compiler.proofs.ToProgram.{Right, statements-right}
+use Rattle.construction.specs.Construction.{programPart, construct}
+use Rattle.construction.specs.Agreement.{Agree}
+use Rattle.construction.proofs.WellFormed.{accepts-listed, listed-accepts}
+use Rattle.construction.proofs.Trial.{trial, before-done, begins-whole}
+use Rattle.construction.proofs.Fragments.{Stands, atEnd, block-stands}
+use Rattle.construction.proofs.ToTable.{to-table}
+use Rattle.construction.proofs.Roles.{programRoles, roleOf, role-given, given-first, given-rest}
+use Rattle.construction.proofs.Sound.{Here, comes, came}
+use Rattle.construction.proofs.ToProgram.{Right, statements-right}
 
 module _ (p : Program) (none : faults p ≡ []) where
   -- state 0 stands for the whole program

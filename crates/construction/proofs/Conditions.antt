@@ -13,11 +13,11 @@ use Rattle.machine.specs.Cell.{last, moved}
 use Rattle.machine.specs.Step.{changed}
 use Rattle.rule.specs.Tree.{Atom, atom}
 use Rattle.rule.proofs.Within.{AtomWithin, ConditionWithin}
-use Rattle.compiler.specs.Construction.{atomRows, walk}
-use Rattle.compiler.proofs.Every.{Every}
-use Rattle.compiler.proofs.Own.{Own, start, taken}
-use Rattle.compiler.proofs.Parts.{leads-walk}
-use Rattle.compiler.proofs.Effects.{stays, keeps, Still, walk-still}
+use Rattle.construction.specs.Construction.{atomRows, walk}
+use Rattle.construction.proofs.Every.{Every}
+use Rattle.construction.proofs.Own.{Own, start, taken}
+use Rattle.construction.proofs.Parts.{leads-walk}
+use Rattle.construction.proofs.Effects.{stays, keeps, Still, walk-still}
 
 -- a negation has the other truth value
 pub turned : (b sign : Bool) → (not b ≡ sign) ↔ (b ≡ not sign)

@@ -15,7 +15,7 @@ use lib.Pow.{pow-lt, pow-add, shl-shr}
 use Rattle.bits.specs.Bit.{bit, withBit, Bytes}
 use Rattle.rule.specs.Limits.{isIn}
 use Rattle.rule.proofs.Within.{isIn-mem, mem-isIn}
-use Rattle.compiler.specs.Construction.{withBits}
+use Rattle.construction.specs.Construction.{withBits}
 
 -- the bits of a power of two
 power-same : (a : ℕ) → 2 ^ a / 2 ^ a % 2 ≡ 1

@@ -5,7 +5,7 @@ use mathlib.Core.Path.{_≡_, refl, sym, _∙_, subst}
 use mathlib.Core.Logic.{_≢_, _⊎_, inl, inr, ⊎-elim}
 use mathlib.Core.List.{List, [], _++_, List·Memᴰ, List·Memᴰ·not-nil, List·Memᴰ·append-cases}
 use Rattle.table.specs.Table.{Row}
-use Rattle.compiler.proofs.Every.{Every, every-nil, every-append}
+use Rattle.construction.proofs.Every.{Every, every-nil, every-append}
 
 -- a part's own states: where it starts, and those that it takes
 pub data Own (p next after s : ℕ) : Type 0 where

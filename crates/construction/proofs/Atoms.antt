@@ -17,7 +17,7 @@ use Rattle.rule.specs.Limits.{value}
 use Rattle.rule.specs.Tree.{Number, Sought, letter, lend, rend, Atom, readIs, readIsNot, counterIs, counterIsNot}
 use Rattle.rule.specs.Meaning.{reads, atomHolds}
 use Rattle.rule.proofs.Within.{SoughtWithin, AtomWithin}
-use Rattle.compiler.specs.Construction.{
+use Rattle.construction.specs.Construction.{
   leftMark,
   rightMark,
   anySymbol,
@@ -33,8 +33,8 @@ use Rattle.compiler.specs.Construction.{
   allSymbols,
   without,
 }
-use Rattle.compiler.proofs.Every.{Every, every-nil, every-cons, every-append}
-use Rattle.compiler.proofs.Symbols.{
+use Rattle.construction.proofs.Every.{Every, every-nil, every-cons, every-append}
+use Rattle.construction.proofs.Symbols.{
   Stands,
   index-stands,
   index-once,
