@@ -26,7 +26,7 @@ in-order : (a b c d e r : List ℕ) → (a ++ (b ++ (c ++ (d ++ e)))) ++ r ≡ a
 in-order a b c d e r = simp append-assoc
 
 -- what a prefix and old bytes become where new bytes are put behind the prefix
-over-behind : (xs new old : List ℕ) (n : ℕ) → length xs ≡ n → over (xs ++ drop n old) n new ≡ (xs ++ new) ++ drop (n + length new) old
+pub over-behind : (xs new old : List ℕ) (n : ℕ) → length xs ≡ n → over (xs ++ drop n old) n new ≡ (xs ++ new) ++ drop (n + length new) old
 over-behind xs new old n long =
     ap (λ (l : List ℕ). l ++ (new ++ drop (n + length new) (xs ++ drop n old))) (take-at xs (drop n old) n long)
     ∙ ap (λ (l : List ℕ). xs ++ (new ++ l))

@@ -1,12 +1,12 @@
 // What the firmware links: the C entries of check and judge. `include/valaiyoth.h` declares them.
-ghost use Rattle.table.specs.Check.{Checks};
+ghost use Rattle.checker.specs.Check.{Checks};
 ghost use Rattle.judge.specs.Judge.{Judges};
 
 #[no_mangle]
 pub extern "C" fn valaiyoth_check(image: &[u8]) -> u64
     ensures { λ r. ⌜ Checks (now (image .entry)) r ⌝ }
 {
-    table::check(image)
+    checker::check(image)
 }
 
 #[no_mangle]

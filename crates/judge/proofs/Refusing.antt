@@ -8,7 +8,7 @@ use lib.ListN.{length}
 use Rattle.table.specs.Table.{Table}
 use Rattle.table.specs.WellFormed.{IsImage, WellFormed}
 use Rattle.table.specs.Refusal.{because, atZero, First, refusal}
-use Rattle.table.specs.Check.{Checked, wellFormed, malformed, checkedNumber, CheckedRight, Checks}
+use Rattle.checker.specs.Check.{Checked, wellFormed, malformed, checkedNumber, CheckedRight, Checks}
 use Rattle.table.specs.Fields.{tableOf}
 use Rattle.table.proofs.Encoded.{image-table}
 use Rattle.judge.specs.Judge.{FirstOutside, reasons}

@@ -48,7 +48,7 @@ fn outside(image: &[u8], word: &[u8]) -> usize
 fn refused(image: &[u8], word: &[u8], limit: u64, marks: &[u8]) -> u64
     ensures { λ r. ⌜ Refusing (now (image .entry)) (now (word .entry)) limit (now (marks .entry)) r ⌝ }
 {
-    if table::check(image) != 1 {
+    if checker::check(image) != 1 {
         return 21000000;
     }
     if 62 < word.len() {

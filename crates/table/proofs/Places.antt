@@ -1,10 +1,8 @@
--- Members of a list of numbers and the places where they stand; a list without repetition.
+-- Members of a list of numbers and the places where they stand.
 use Prim.Native.Nat.{ℕ, zero, suc, _<_, suc-le-suc}
 use native.Mathlib.Nat.{le-of-suc-le-suc, zero-lt-suc, not-suc-le-zero}
-use mathlib.Core.Path.{_≡_, refl, sym, _∙_}
-use mathlib.Core.Logic.{∥∥₁-elim}
-use mathlib.Core.HLevel.{⊥-prop}
-use mathlib.Core.List.{List, [], _∷_, List·Memᴰ, List·Memᴰ·head, List·Memᴰ·tail, List·Nodup, Pairwise·nil, Pairwise·cons}
+use mathlib.Core.Path.{_≡_, refl, sym}
+use mathlib.Core.List.{List, [], _∷_, List·Memᴰ, List·Memᴰ·head, List·Memᴰ·tail}
 use lib.ListN.{length, getD}
 
 -- a member stands at a place
@@ -17,20 +15,3 @@ pub member-at : (l : List ℕ) (c : ℕ) → c < length l → List·Memᴰ (getD
 member-at [] c low = absurd (not-suc-le-zero low)
 member-at (x ∷ l) zero low = List·Memᴰ·head refl
 member-at (x ∷ l) (suc c) low = List·Memᴰ·tail (member-at l c (le-of-suc-le-suc low))
-
--- what stands at each place differs from what stands before it
-abbrev pub Different : List ℕ → Type 0
-Different l = (c : ℕ) → c < length l → (d : ℕ) → d < c → ¬ (getD l d 0 ≡ getD l c 0)
-
-pub nodup-of : (l : List ℕ) → Different l → List·Nodup l
-nodup-of [] apart = Pairwise·nil
-nodup-of (x ∷ l) apart =
-    Pairwise·cons
-    (λ y m e. ∥∥₁-elim m ⊥-prop (λ k. let found = place-of k in apart (suc (found .0)) (suc-le-suc (found .1)) 0 (zero-lt-suc (found .0)) (e ∙ sym (found .2))))
-    (nodup-of l (λ c low d before. apart (suc c) (suc-le-suc low) (suc d) (suc-le-suc before)))
-
-pub of-nodup : (l : List ℕ) → List·Nodup l → Different l
-of-nodup (x ∷ l) (Pairwise·cons apart once) (suc c) low zero before e =
-    apart (getD l c 0) ∣ member-at l c (le-of-suc-le-suc low) ∣₁ e
-of-nodup (x ∷ l) (Pairwise·cons apart once) (suc c) low (suc d) before e =
-    of-nodup l once c (le-of-suc-le-suc low) d (le-of-suc-le-suc before) e

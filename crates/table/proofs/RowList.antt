@@ -1,5 +1,5 @@
--- The rows of an image: each by its number, and their bytes.
-use Prim.Native.Nat.{ℕ, zero, suc, _+_, _*_, _/_, _%_, _≤_, _<_}
+-- The rows of an image: each by its number, and by its bytes.
+use Prim.Native.Nat.{ℕ, zero, suc, _+_, _*_, _≤_, _<_}
 use native.Mathlib.Nat.{add-zero, add-assoc}
 use native.Mathlib.Decide.{ℕ-discrete}
 use native.Mathlib.Omega.{arith}
@@ -7,11 +7,10 @@ use mathlib.Core.Path.{_≡_, refl, sym, ap, _∙_}
 use mathlib.Core.List.{List, [], _∷_, _++_, append-assoc, List·Memᴰ, List·Memᴰ·head, List·Memᴰ·tail}
 use lib.ListN.{length, getD, drop}
 use lib.Seq.{drop-drop}
-use Rattle.bits.specs.Bit.{Bytes}
 use Rattle.table.specs.Table.{Row}
 use Rattle.table.specs.Image.{twoBytes, rowBytes, rowsBytes}
 use Rattle.table.specs.Fields.{byteAt, twoAt, lettersOf, rowFrom, rowOf, rowsFrom, rowCount, tableOf}
-use Rattle.table.proofs.Standing.{byte-from, split-here}
+use Rattle.table.proofs.Standing.{byte-from}
 
 -- the row whose bytes stand here
 pub row-of-bytes : (image : List ℕ) (at : ℕ) (r : Row) (rest : List ℕ) → drop at image ≡ rowBytes r ++ rest → rowFrom image at ≡ r
@@ -21,29 +20,6 @@ row-of-bytes image at r rest e =
     let from : twoAt image at ≡ r .from = omega (arith, (rw add-zero at (here 0)), here 1) in
     let to : twoAt image (at + 6) ≡ r .to = rw (add-assoc at 6 1) (omega (arith, here 6, here 7)) in
     λ i. record { from = from i; symbol = here 2 i; test = here 3 i; move = here 4 i; change = here 5 i; to = to i }
-
--- the bytes of the row that stands here
-pub bytes-of-row
-    : (image : List ℕ) (at : ℕ) → Bytes image → at + 8 ≤ length image
-    → drop at image ≡ rowBytes (rowFrom image at) ++ drop (at + 8) image
-unfolding rowFrom rowBytes twoBytes
-bytes-of-row image at bytes long =
-    let first : byteAt image (at + 0) ≡ twoAt image at / 256 = rw add-zero (omega (arith, bytes (at + 1))) in
-    let second : byteAt image (at + 1) ≡ twoAt image at % 256 = omega (arith, bytes (at + 1)) in
-    let seventh : byteAt image (at + 6) ≡ twoAt image (at + 6) / 256 = omega (arith, bytes (at + 6 + 1)) in
-    let eighth : byteAt image (at + 7) ≡ twoAt image (at + 6) % 256 =
-    ap (byteAt image) (sym (add-assoc at 6 1)) ∙ omega (arith, bytes (at + 6 + 1)) in
-    split-here image at 8 long
-    ∙ (λ i.
-    first i
-    ∷ second i
-    ∷ byteAt image (at + 2)
-    ∷ byteAt image (at + 3)
-    ∷ byteAt image (at + 4)
-    ∷ byteAt image (at + 5)
-    ∷ seventh i
-    ∷ eighth i
-    ∷ drop (at + 8) image)
 
 -- the bytes after a row's eight
 after-row : (r : Row) (rest : List ℕ) → drop 8 (rowBytes r ++ rest) ≡ rest
@@ -91,20 +67,6 @@ rows-of-bytes image i (r ∷ rs) rest e =
     let others : drop (at + 8) image ≡ rowsBytes rs ++ rest = sym (drop-drop 8 at image) ∙ ap (drop 8) both ∙ after-row r (rowsBytes rs ++ rest) in
     λ j. row-of-bytes image at r (rowsBytes rs ++ rest) both j
     ∷ rows-of-bytes image (suc i) rs rest (rw (← next) others) j
-
--- the bytes of the rows that stand here
-pub bytes-of-rows
-    : (image : List ℕ) (i n : ℕ) → Bytes image → lettersOf image + 38 + (i + n) * 8 ≤ length image
-    → drop (lettersOf image + 38 + i * 8) image ≡ rowsBytes (rowsFrom image i n) ++ drop (lettersOf image + 38 + (i + n) * 8) image
-unfolding rowsFrom rowsBytes
-bytes-of-rows image i zero bytes long = rw add-zero refl
-bytes-of-rows image i (suc n) bytes long =
-    let at = lettersOf image + 38 + i * 8 in
-    let next : at + 8 ≡ lettersOf image + 38 + suc i * 8 = omega arith in
-    let end : suc i + n ≡ i + suc n = omega arith in
-    let others = bytes-of-rows image (suc i) n bytes (rw end long) in
-    bytes-of-row image at bytes (omega arith)
-    ∙ rw (next, others, end) (sym (append-assoc (rowBytes (rowOf image i)) (rowsBytes (rowsFrom image (suc i) n)) _))
 
 module _ (image : List ℕ) where
   -- an image has as many rows as it says

@@ -1,14 +1,11 @@
-// A table's image: what its fields say, read where they stand, and the checker of images.
+// A table's image: what its fields say, read where they stand.
 // A reader takes any bytes for an image; a byte past the end counts as 0.
-mod form;
-
 ghost use mathlib.Core.Path.{_≡_};
 ghost use Prim.Native.Nat.{_+_, _^_, _<_};
 ghost use Rattle.bits.specs.Bit.{bit};
 ghost use Rattle.table.specs.Table.{Row};
 ghost use Rattle.table.specs.Fields.{twoAt, rowFrom, rowOf, tableOf, rowCount, lettersOf, letterOf};
 ghost use Rattle.table.specs.RowCode.{rowIs};
-ghost use Rattle.table.specs.Check.{Checks};
 
 // A row as it stands in an image; `motion` is its move.
 pub struct Row {
@@ -131,16 +128,5 @@ pub fn row_at(image: &[u8], i: usize) -> Row
             change: 0,
             to: 0,
         }
-    }
-}
-
-// 1 for a well-formed image, else refusal 21 at place 0.
-pub fn check(image: &[u8]) -> u64
-    ensures { λ r. ⌜ Checks (now (image .entry)) r ⌝ }
-{
-    if form::well_formed(image) {
-        1
-    } else {
-        21000000
     }
 }

@@ -1,0 +1,40 @@
+-- A check's number is settled by the image, is never 0, and tells whether the image is well formed.
+use Prim.Native.Nat.{ℕ, _≤_}
+use native.Mathlib.Omega.{arith}
+use mathlib.Core.Path.{_≡_, refl, sym, ap, _∙_}
+use mathlib.Core.List.{List}
+use Rattle.table.specs.WellFormed.{WellFormed}
+use Rattle.table.specs.Refusal.{refusal}
+use Rattle.checker.specs.Check.{Checked, wellFormed, malformed, checkedNumber, CheckedRight, Checks}
+
+-- an image has one right answer
+answer-once : (image : List ℕ) (a b : Checked) → CheckedRight image a → CheckedRight image b → a ≡ b
+answer-once image wellFormed wellFormed is is′ = refl
+answer-once image wellFormed malformed is not = absurd (not is)
+answer-once image malformed wellFormed not is = absurd (not is)
+answer-once image malformed malformed not not′ = refl
+
+-- two checks of an image give the same number
+pub checks-once : {image : List ℕ} {r r′ : ℕ} → Checks image r → Checks image r′ → r ≡ r′
+checks-once {image} a b = a .number ∙ ap checkedNumber (answer-once image (a .answer) (b .answer) (a .right) (b .right)) ∙ sym (b .number)
+
+-- no answer has the number 0
+some-number : (a : Checked) → 1 ≤ checkedNumber a
+unfolding checkedNumber
+some-number wellFormed = omega arith
+some-number malformed = omega arith
+
+-- a check never gives 0
+pub checks-never-zero : {image : List ℕ} {r : ℕ} → Checks image r → 1 ≤ r
+checks-never-zero a = rw (a .number) (some-number (a .answer))
+
+-- what an answer with the number 1 says, and any other
+one-says : (image : List ℕ) (a : Checked) → CheckedRight image a → checkedNumber a ≡ 1 → WellFormed image
+unfolding checkedNumber
+one-says image wellFormed right e = right
+one-says image malformed right e = absurd (omega arith)
+
+other-says : (image : List ℕ) (a : Checked) → CheckedRight image a → ¬ (checkedNumber a ≡ 1) → (¬ WellFormed image) × (checkedNumber a ≡ refusal 21 0)
+unfolding checkedNumber
+other-says image wellFormed right other = absurd (other refl)
+other-says image malformed right other = (right, refl)

@@ -1,0 +1,60 @@
+-- Each part that is asked is one of those of `HeadRight`. Assumes nothing.
+use native.Mathlib.Omega.{arith}
+use borrow.Author.Tests.{lt-leb, leb-true, leb-false}
+use mathlib.Core.Path.{refl, sym, _∙_}
+use Rattle.checker.proofs.Telling.{refuted, kept, tells-no}
+use borrow.Author.Needs.{needs}
+use Rattle.checker.proofs.form.head_right.Statement.{statement}
+use Rattle.checker.proofs.form.head_right.Tie as tie
+
+letter-count-requires : tie.Need-letter-count-requires
+letter-count-requires c κs = search needs
+
+field-at-requires : tie.Need-field-at-requires
+field-at-requires c κs = search needs
+
+returns : tie.Need-returns
+returns c = refuted (c .before .field-at .ensures) (c .if1 .taken) (λ h. h .first)
+
+byte-at-requires : tie.Need-byte-at-requires
+byte-at-requires c κs = search needs
+
+returns-2 : tie.Need-returns-2
+returns-2 c = tells-no refl (λ h. c .if2 .taken (c .before .byte-at .ensures ∙ h .edition))
+
+field-at-requires-2 : tie.Need-field-at-requires-2
+field-at-requires-2 c κs = search needs
+
+returns-3 : tie.Need-returns-3
+returns-3 c = refuted (rw (c .before .before .before .before .before .before .letter-count .ensures) at (c .before .field-at2 .ensures)) (c .if3 .taken) (λ h. h .second)
+
+returns-4 : tie.Need-returns-4
+returns-4 c =
+    let letters = c .before .before .before .before .before .before .before .letter-count .ensures in
+    record {
+      holds = λ e. record {
+        first = kept (c .before .before .before .before .before .before .field-at .ensures) (c .before .before .before .before .before .if1 .left);
+        edition = sym (c .before .before .before .before .byte-at .ensures) ∙ c .before .before .before .if2 .left;
+        second = kept (rw letters at (c .before .before .field-at2 .ensures)) (c .before .if3 .left);
+        someLetter = omega (arith, letters, c .if4 .taken);
+        fewLetters = omega (arith, letters, leb-true);
+      };
+      fails = λ e h. omega (arith, letters, leb-false, h .fewLetters);
+    }
+
+returns-5 : tie.Need-returns-5
+returns-5 c = tells-no (lt-leb _ _ (c .if4 .left)) (λ h. omega (arith, c .before .before .before .before .before .before .before .letter-count .ensures, c .if4 .left, h .someLetter))
+
+pub head-right-spec : {M : Type 1} → statement M
+head-right-spec =
+    tie.close
+    (tie.spec
+    letter-count-requires
+    field-at-requires
+    returns
+    byte-at-requires
+    returns-2
+    field-at-requires-2
+    returns-3
+    returns-4
+    returns-5)

@@ -1,0 +1,2 @@
+-- What checking an image promises.
+pub mod Check

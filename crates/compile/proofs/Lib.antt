@@ -1,0 +1,2 @@
+-- Laws of the line that is printed.
+pub mod Lines

@@ -1,0 +1,51 @@
+-- Assumes nothing.
+use Prim.Native.Nat.{_≤_}
+use native.Mathlib.Omega.{arith}
+use mathlib.Core.Path.{_∙_}
+use borrow.Author.Needs.{needs}
+use Rattle.compile.proofs.Lines.{adds-both, adds-as, fewest-short, decimal-is}
+use Rattle.compile.proofs.line.number.Statement.{statement}
+use Rattle.compile.proofs.line.number.Tie as tie
+
+decimal-requires : tie.Need-decimal-requires
+decimal-requires c κs = search needs
+
+array-share-prefix-digits : tie.Need-array-share-prefix-digits
+array-share-prefix-digits c = search needs
+
+slice-aggregate-add : tie.Need-slice-aggregate-add
+slice-aggregate-add c = search needs
+
+-- as many digits as the line has
+short : (c : tie.After-decimal) → c .decimal .result ≤ 20
+short c = fewest-short _ _ (c .decimal .ensures .1 .0) (omega (arith, c .before .before .before .good))
+
+add-requires : tie.Need-add-requires
+add-requires c κs = omega (arith, short (c .before .before), c .before .before .decimal .ensures .0 .1)
+
+slice-aggregate-add-2 : tie.Need-slice-aggregate-add-2
+slice-aggregate-add-2 c = search needs
+
+add-requires-2 : tie.Need-add-requires-2
+add-requires-2 c κs = omega (arith, short (c .before .before .before .before .before .before .before), c .before .before .before .before .add .ensures .ends, c .before .before .before .before .add .kept .0, c .before .before .before .before .before .before .before .decimal .ensures .0 .1)
+
+same-length : tie.Need-same-length
+same-length c = search needs
+
+returns : tie.Need-returns
+returns c =
+    let d = c .before .before .before .before .before .before .before .before .before .before in
+    adds-both (adds-as (c .before .before .before .before .before .before .before .add .ensures) (d .decimal .ensures .1 .1 ∙ decimal-is _ _ (d .decimal .ensures .1 .0) (short d))) (c .before .before .add2 .ensures)
+
+pub number-spec : {M : Type 1} → statement M
+number-spec =
+    tie.close
+    (tie.spec
+    decimal-requires
+    array-share-prefix-digits
+    slice-aggregate-add
+    add-requires
+    slice-aggregate-add-2
+    add-requires-2
+    same-length
+    returns)

@@ -1,0 +1,2 @@
+-- What the functions that write the line promise each other.
+pub mod Standing

@@ -1,0 +1,68 @@
+// compile [IMAGE]: compiles the rule on standard input and prints one line, `ok STATES ROWS BYTES` or `no NUMBER PLACE`. With
+// a name it also writes the image to the file of that name, if the rule compiles. What keeps it from that is said on standard
+// error, and then no line is printed.
+mod line;
+
+use compiler::Answer;
+use libc::STDERR_FILENO;
+use libc::STDIN_FILENO;
+use libc::STDOUT_FILENO;
+
+fn usage() {
+    io::write_all(
+        STDERR_FILENO,
+        b"compile: the rule comes on standard input, and at most one name is given, of a file for the image\n",
+    );
+}
+
+// Whether the image is in the file that was named, if one was.
+fn saved(image: &[u8]) -> bool {
+    if os::arg_count() < 2 {
+        return true;
+    }
+    let mut path = io::buffer();
+    let n = os::arg(1, &mut path);
+    if os::errno() != 0 {
+        os::fail(b"compile: the name of the image's file");
+        return false;
+    }
+    files::save(&path[..n], image)
+}
+
+fn print(answer: Answer) {
+    let mut text = [0u8; 66];
+    let n = line::line(answer, &mut text);
+    io::write_all(STDOUT_FILENO, &text[..n]);
+}
+
+// The file is written before the line, so that `ok` says that it is there.
+fn compile(text: &[u8]) {
+    let mut image = [0u8; 8246];
+    let answer = compiler::compile(text, &mut image);
+    if let Answer::Compiled {
+        bytes,
+        states: _,
+        rows: _,
+    } = answer {
+        if !saved(&image[..bytes]) {
+            return;
+        }
+    }
+    print(answer);
+}
+
+// One byte more than a text may have tells a longer one.
+fn main() {
+    if 2 < os::arg_count() {
+        usage();
+        return;
+    }
+    let mut text = [0u8; 4097];
+    let got = files::read_all(STDIN_FILENO, &mut text);
+    if files::failed(got) {
+        os::fail(b"compile: standard input");
+        return;
+    }
+    let n = files::count(got, &text);
+    compile(&text[..n]);
+}
