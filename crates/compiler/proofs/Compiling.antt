@@ -11,13 +11,13 @@ use Rattle.table.proofs.Image.{length-encode}
 use Rattle.table.proofs.Refusal.{Single, Gives, Each, single-at-zero, first-once, first-has}
 use Rattle.rule.specs.Tree.{Program}
 use Rattle.rule.specs.Counts.{programStates, programRows}
-use Rattle.rule.specs.Faults.{FirstFault, Reads}
-use Rattle.rule.specs.Reading.{TooMany, reasons as readingReasons, Whole, ReadsTo}
-use Rattle.rule.specs.declared.Reading.the-variants as Reading
+use Rattle.rule.specs.Faults.{FirstFault, Reads, TooMany}
 use Rattle.rule.proofs.Within.{program-within, length-letterBytes}
 use Rattle.rule.proofs.Outcomes.{reads-once}
 use Rattle.rule.proofs.Bounds.{fault-bounds}
-use Rattle.rule.proofs.Promise.{single-text, no-text}
+use Rattle.rule.proofs.Reasons.{single-text, no-text}
+use Rattle.reader.specs.Reading.{reasons as readingReasons, Whole, ReadsTo}
+use Rattle.reader.specs.declared.Reading.the-variants as Reading
 use Rattle.construction.specs.Construction.{programPart, construct}
 use Rattle.compiler.specs.Compile.{imageRoom, reasons, answerNumber, Compiled, Refused, Compiles, CompilesTo}
 use Rattle.compiler.specs.Setting.{Fits, Emittable, Images}

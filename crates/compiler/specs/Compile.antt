@@ -8,8 +8,7 @@ use Rattle.table.specs.Image.{encode}
 use Rattle.table.specs.Refusal.{Reason, because, atZero, First, refusal}
 use Rattle.machine.specs.Run.{Accepts}
 use Rattle.rule.specs.Tree.{Program}
-use Rattle.rule.specs.Faults.{FirstFault, Reads}
-use Rattle.rule.specs.Reading.{TooMany}
+use Rattle.rule.specs.Faults.{FirstFault, Reads, TooMany}
 use Rattle.rule.specs.Meaning.{ProgramAccepts}
 use Rattle.construction.specs.Construction.{construct}
 use Rattle.construction.specs.Agreement.{Agree}

@@ -10,7 +10,7 @@ mod walk;
 mod write;
 
 ghost use Rattle.compiler.specs.Compile.{Compiles};
-use rule::Reading;
+use reader::Reading;
 
 // Where the emitter stands: how far it has come in the text, the state that the next statement starts at, the next state
 // to be taken, and the byte of the image at which the next row is written.
@@ -50,7 +50,7 @@ pub fn compile(text: &[u8], image: &mut [u8]) -> Answer
             place: 0,
         };
     }
-    match rule::read(text) {
+    match reader::read(text) {
         Reading::Refused { number, place } => Answer::Refused { number, place },
         Reading::Taken { states, rows } => Answer::Compiled {
             bytes: emit::emit(text, image, states, rows),

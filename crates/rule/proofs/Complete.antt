@@ -106,12 +106,16 @@ tail-closes : {us vs : Ts} (n : ℕ) → Is (s ")") us vs → Eats (tail n) us (
 unfolding eat
 tail-closes n is st a k = refl
 
+-- behind a `!` stands an operand, and no more
+negation-eats : (p : ℕ) (ts us : Ts) (c : Condition) → Eaten tightest ts c us → Eaten tightest ((s "!" at p) ∷ ts) (Tree.negation p c) us
+unfolding eat conditionFar
+negation-eats p ts us c d = λ n st a k. d (suc n) st _ (λ (x, vs). k (Tree.negation p x, vs))
+
 condition-eats : {b : Binding} {ts us : Ts} {c : Condition} → IsCondition b ts c us → Eaten b ts c us
 unfolding eat conditionFar extended
 condition-eats (Grammar.atom x) = λ n st a k. atom-eats n x st a k
 condition-eats (Grammar.parens {p = p} d) = λ n st a k. condition-eats d (suc n) _ st _ (λ c vs. k (Tree.parens p c, vs)) is
-condition-eats (Grammar.negation {p = p} d) =
-    λ n st a k. condition-eats d (suc n) st _ (λ (c, vs). k (Tree.negation p c, vs))
+condition-eats (Grammar.negation {p = p} {ts = ts} {us = us} {c = c} d) = negation-eats p ts us c (condition-eats d)
 condition-eats {us = us} {c = c} (Grammar.tighter d) =
     λ n st a k.
     condition-eats d n (tail n ∷ st) a (λ (x, ((f, g), vs)). k (f x) g vs)

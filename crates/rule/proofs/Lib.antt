@@ -11,21 +11,8 @@ pub mod Viable
 pub mod Trace
 pub mod Outcomes
 pub mod Bounds
+pub mod Reasons
 -- trees without faults
+pub mod Digits
 pub mod Invert
 pub mod Within
--- what the readers answer, by the machine
-pub mod Front
-pub mod Moves
-pub mod Arms
-pub mod Missed
-pub mod Exact
-pub mod Alphabet
-pub mod Digits
-pub mod Tested
-pub mod Operators
-pub mod Peek
-pub mod Branches
-pub mod Listed
-pub mod Whole
-pub mod Promise

@@ -1,7 +1,9 @@
--- The first fault of a text, 3 to 9, by what programs there are, limits aside: no reader is mentioned in it.
-use Prim.Native.Nat.{ℕ}
+-- The first fault of a text, 3 to 9, by what programs there are, limits aside, and what 10 and 11 are given for: no reader is
+-- mentioned in it.
+use Prim.Native.Nat.{ℕ, _<_}
 use mathlib.Core.Path.{_≡_}
 use mathlib.Core.List.{List, [], _∷_, _++_, List·Memᴰ}
+use lib.ListN.{length}
 use Rattle.text.specs.Token.{Token}
 use Rattle.text.specs.Tokens.{Placed, _at_, Ending, ends, broken, TokensOf, Rising}
 use Rattle.rule.specs.Tree.{Program}
@@ -55,3 +57,10 @@ pub record Reads (text : List ℕ) (p : Program) : Type 0 where
   pub ofText : TokensOf text tokens (ends place)
   pub derived : IsProgram tokens p
   pub faultless : faults p ≡ []
+
+-- a whole program without faults that has more than the most that may be: of states, or of rows
+pub record TooMany (text : List ℕ) (size : Program → ℕ) (most place : ℕ) : Type 0 where
+  pub program : Program
+  pub reads : Reads text program
+  pub over : most < size program
+  pub atEnd : place ≡ length text

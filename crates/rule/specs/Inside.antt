@@ -1,5 +1,3 @@
--- What the readers promise each other, by a machine with a stack. No caller relies on any of it.
+-- A machine with a stack, by which the readers' promises to each other are said. No definition of a rule rests on it.
 pub mod Class
 pub mod Machine
-pub mod Answers
-pub mod Atoms

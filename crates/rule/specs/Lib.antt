@@ -5,5 +5,4 @@ pub mod Limits
 pub mod Counts
 pub mod Faults
 pub mod Meaning
-pub mod Reading
 pub mod Inside

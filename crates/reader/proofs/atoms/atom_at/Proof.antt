@@ -1,0 +1,80 @@
+-- `rule::atoms::atom_at` meets its contract.
+use mathlib.Core.Path.{refl}
+use Rattle.reader.specs.Inside.Answers.{alphabetOf}
+use Rattle.reader.proofs.Front.{told-word}
+use Rattle.reader.proofs.Tested.{test-refuses, test-refuses-word, test-on, nor-sign}
+use borrow.Author.Needs.{needs}
+use Rattle.reader.proofs.atoms.atom_at.Statement.{statement}
+use Rattle.reader.proofs.atoms.atom_at.Tie as tie
+
+token-at-requires : tie.Need-token-at-requires
+token-at-requires c κs = search needs
+
+enum-known-token : tie.Need-enum-known-token
+enum-known-token c = search needs
+
+refuse-requires : tie.Need-refuse-requires
+refuse-requires c κs = search needs
+
+returns : tie.Need-returns
+returns c = λ n. test-refuses (c .before .before .token-at .ensures) (λ t. nor-sign (c .before .before .before .before .pre .0) (c .before .before .token-at .ensures) (c .before .match .keys2)) (c .refuse .ensures)
+
+enum-told : tie.Need-enum-told
+enum-told c = search needs
+
+read-test-at-requires : tie.Need-read-test-at-requires
+read-test-at-requires c κs = search needs
+
+enum-told-2 : tie.Need-enum-told-2
+enum-told-2 c = search needs
+
+counter-test-at-requires : tie.Need-counter-test-at-requires
+counter-test-at-requires c κs = search needs
+
+refuse-requires-2 : tie.Need-refuse-requires-2
+refuse-requires-2 c κs = search needs
+
+returns-2 : tie.Need-returns-2
+returns-2 c =
+    λ n.
+    test-on
+    (told-word (c .before .before .before .before .before .before .token-at .ensures) (c .before .before .before .before .token .given .1) (c .before .enum-told .given .1))
+    _
+    (λ t. refl)
+    (λ t. refl)
+    (λ t. refl)
+    (λ t. refl)
+    (c .read-test-at .ensures (c .before .before .before .before .token .given .0 .0))
+
+returns-3 : tie.Need-returns-3
+returns-3 c =
+    λ n.
+    test-on
+    (told-word (c .before .before .before .before .before .before .token-at .ensures) (c .before .before .before .before .token .given .1) (c .before .enum-told2 .given .1))
+    _
+    (λ t. refl)
+    (λ t. refl)
+    (λ t. refl)
+    (λ t. refl)
+    (c .counter-test-at .ensures (alphabetOf (c .before .before .before .before .before .before .before .before .args .letters)) (c .before .before .before .before .token .given .0 .0))
+
+returns-4 : tie.Need-returns-4
+returns-4 c =
+    λ n. test-refuses-word (c .before .before .before .before .before .token-at .ensures) (c .before .before .before .token .given .1) (λ t. c .before .match2 .keys3) (c .refuse2 .ensures)
+
+pub atom-at-spec : {M : Type 1} → statement M
+atom-at-spec =
+    tie.close
+    (tie.spec
+    token-at-requires
+    enum-known-token
+    refuse-requires
+    returns
+    enum-told
+    read-test-at-requires
+    enum-told-2
+    counter-test-at-requires
+    refuse-requires-2
+    returns-2
+    returns-3
+    returns-4)

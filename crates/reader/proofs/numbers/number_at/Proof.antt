@@ -1,0 +1,74 @@
+-- `rule::numbers::number_at` meets its contract.
+use native.Mathlib.Omega.{arith}
+use mathlib.Core.Path.{refl, sym, _∙_}
+use Rattle.rule.proofs.Digits.{number-digits}
+use Rattle.reader.proofs.Front.{front-number}
+use Rattle.reader.proofs.Moves.{done, step, break, ready-on}
+use Rattle.reader.proofs.Missed.{refuses}
+use borrow.Author.Needs.{needs}
+use Rattle.reader.proofs.numbers.number_at.Statement.{statement}
+use Rattle.reader.proofs.numbers.number_at.Tie as tie
+
+token-at-requires : tie.Need-token-at-requires
+token-at-requires c κs = search needs
+
+enum-known-token : tie.Need-enum-known-token
+enum-known-token c = search needs
+
+refuse-requires : tie.Need-refuse-requires
+refuse-requires c κs = search needs
+
+returns : tie.Need-returns
+returns c = λ a. refuses (c .before .before .token-at .ensures) (c .before .match .keys2) (c .refuse .ensures)
+
+sub-out-of-range : tie.Need-sub-out-of-range
+sub-out-of-range c =
+    let f = front-number (c .before .before .before .token-at .ensures) (c .before .token .given .1) in
+    omega arith
+
+part-out-of-range-start : tie.Need-part-out-of-range-start
+part-out-of-range-start c =
+    let f = front-number (c .before .before .before .token-at .ensures) (c .before .token .given .1) in
+    omega arith
+
+part-out-of-range-end : tie.Need-part-out-of-range-end
+part-out-of-range-end c =
+    let f = front-number (c .before .before .before .token-at .ensures) (c .before .token .given .1) in
+    omega arith
+
+out-of-range-requires : tie.Need-out-of-range-requires
+out-of-range-requires c κs = number-digits (c .before .before .before .before .token-at .ensures) (c .before .before .token .given .1)
+
+returns-2 : tie.Need-returns-2
+returns-2 c =
+    λ a.
+    break
+    (front-number (c .before .before .before .before .before .before .token-at .ensures) (c .before .before .before .before .token .given .1))
+    refl
+    (sym (c .before .out-of-range .ensures) ∙ c .if1 .taken)
+
+returns-3 : tie.Need-returns-3
+returns-3 c =
+    let f = front-number (c .before .before .before .before .before .before .token-at .ensures) (c .before .before .before .before .token .given .1) in
+    λ a.
+    step
+    f
+    refl
+    (sym (c .before .out-of-range .ensures) ∙ c .if1 .left)
+    refl
+    (done (ready-on f (c .before .before .before .before .before .before .before .before .pre)))
+
+pub number-at-spec : {M : Type 1} → statement M
+number-at-spec =
+    tie.close
+    (tie.spec
+    token-at-requires
+    enum-known-token
+    refuse-requires
+    returns
+    sub-out-of-range
+    part-out-of-range-start
+    part-out-of-range-end
+    out-of-range-requires
+    returns-2
+    returns-3)

@@ -1,0 +1,3 @@
+-- What reading a text promises.
+pub mod Reading
+pub mod Inside

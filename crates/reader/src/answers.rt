@@ -1,0 +1,105 @@
+// What a reader answers: the byte after what it read and the counts so far, or a refusal.
+ghost use mathlib.Core.Path.{_≡_};
+ghost use mathlib.Core.List.{List, [], _∷_};
+ghost use Prim.Native.Nat.{ℕ, _+_, _^_, _<_};
+ghost use Rattle.text.specs.Token as Spelt;
+ghost use Rattle.rule.specs.Inside.Class.{Mark, spell};
+ghost use Rattle.rule.specs.Inside.Machine.{exact};
+ghost use Rattle.reader.specs.Inside.Answers.{refusalOf, totals, spot, Ready, Answers};
+use text::Token;
+use text::token_at;
+
+// The states and rows so far.
+pub struct Counts {
+    pub states: usize,
+    pub rows: usize,
+}
+
+impl Counts {
+    pub fn plus(self, states: usize, rows: usize) -> Counts
+        requires { ⌜ (self .states + states < 2 ^ 64) × (self .rows + rows < 2 ^ 64) ⌝ }
+        ensures { λ r. ⌜ r ≡ record { states = self .states + states; rows = self .rows + rows } ⌝ }
+    {
+        Counts {
+            states: self.states + states,
+            rows: self.rows + rows,
+        }
+    }
+}
+
+pub struct Refusal {
+    pub number: usize,
+    pub place: usize,
+}
+
+pub enum Read {
+    Went { at: usize, counts: Counts },
+    Refused(Refusal),
+}
+
+// The refusal of a token with which no program goes on.
+pub fn refuse(token: Token) -> Refusal
+    ensures { λ r. ⌜ r ≡ refusalOf token ⌝ }
+{
+    match token {
+        Token::Word {
+            at,
+            end: _,
+            word: _,
+        } => Refusal {
+            number: 4,
+            place: at,
+        },
+        Token::Number { at, end: _ } => Refusal {
+            number: 4,
+            place: at,
+        },
+        Token::Letter {
+            at,
+            end: _,
+            byte: _,
+        } => Refusal {
+            number: 4,
+            place: at,
+        },
+        Token::Sign {
+            at,
+            end: _,
+            sign: _,
+        } => Refusal {
+            number: 4,
+            place: at,
+        },
+        Token::End { at } => Refusal {
+            number: 4,
+            place: at,
+        },
+        Token::Broken { at } => Refusal {
+            number: 3,
+            place: at,
+        },
+    }
+}
+
+// A sign of one byte. Enums have no `==`, and this byte says which sign it is.
+pub fn sign_at(text: &[u8], at: usize, counts: Counts, wanted: u8) -> Read
+    requires { ⌜ Ready (now text) at counts ⌝ }
+    ensures { λ r. ⌜ ((m : Mark) (a : List ℕ) → spell m ≡ Spelt.sign (wanted ∷ []) → Answers (now (text .entry)) (spot at (exact m ∷ []) (totals a counts)) [] a r) ⌝ }
+{
+    let token = token_at(text, at);
+    let Token::Sign {
+        at: place,
+        end,
+        sign: _,
+    } = token
+    else {
+        return Read::Refused(refuse(token));
+    };
+    if end - place != 1 {
+        return Read::Refused(refuse(token));
+    }
+    if text[place] != wanted {
+        return Read::Refused(refuse(token));
+    }
+    Read::Went { at: end, counts }
+}
