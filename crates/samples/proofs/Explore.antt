@@ -16,7 +16,7 @@ use Rattle.machine.specs.Step.{Situation, Takes, rowFits, changed}
 use Rattle.machine.specs.Run.{start, Reach, begins, goes, Accepts, Passes}
 use Rattle.judge.specs.Verdict.{Verdict, Yes, No, LimitMet, IsVerdict}
 use Rattle.bits.proofs.Tests.{every, every-at, and-left, and-right, and-of, or-left, or-right, or-cases}
-use Rattle.samples.proofs.Decide.{passed}
+use Rattle.samples.proofs.Decide.{_>>=_, passed}
 
 abbrev sameSituation : Situation → Situation → Bool
 sameSituation a b = eqb (a .state) (b .state) && (eqb (a .cell) (b .cell) && eqb (a .counter) (b .counter))

@@ -32,7 +32,7 @@ use Rattle.compiler.specs.Compile.{Compilable, reasons, imageRoom}
 use Rattle.compiler.specs.Line.{line}
 use Rattle.samples.specs.Sample as Sample
 use Rattle.samples.specs.Sample.{Finding, prints, has, image, row, judged, Sample, compiles, refuses, onlyRow, FindingHolds, AllHold, Holds, EachHolds}
-use Rattle.samples.proofs.Decide.{found, it, equal, atMost, equalLists, empty}
+use Rattle.samples.proofs.Decide.{_>>=_, found, it, equal, atMost, equalLists, empty}
 use Rattle.samples.proofs.Explore.{Explored, explore, size-of, decideVerdict}
 
 -- the text's program, if it is one without faults
