@@ -23,7 +23,7 @@ use Rattle.text.specs.declared.Sign.{Sign}
 use Rattle.text.specs.declared.Sign.the-variants as Sign
 use Rattle.text.proofs.Named.{word-is}
 use Rattle.text.proofs.Signed.{signOf, allSigns, sign-is}
-use Rattle.text.proofs.Comes.{end-first}
+use Rattle.tokeniser.proofs.Comes.{end-first}
 use Rattle.text.proofs.Once.{comes}
 use Rattle.text.proofs.Follow.{placeOf, first-onward}
 use Rattle.rule.specs.Limits.{valueFrom}

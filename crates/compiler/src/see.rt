@@ -6,7 +6,7 @@ ghost use Rattle.compiler.specs.Seeing.{Sees, Passes, Digits};
 use text::Sign;
 use text::Token;
 use text::Word;
-use text::token_at;
+use tokeniser::token_at;
 
 // What stands at a place: which word, or Other; which sign, or the semicolon, at which nothing is decided; a letter's
 // byte, or 0; and the token's bytes, text[start..end]. Where no token stands it ends where it was looked for.

@@ -1,6 +1,6 @@
 // What the firmware links: the C entries of check and judge. `include/valaiyoth.h` declares them.
 ghost use Rattle.checker.specs.Check.{Checks};
-ghost use Rattle.judge.specs.Judge.{Judges};
+ghost use Rattle.judgement.specs.Judge.{Judges};
 
 #[no_mangle]
 pub extern "C" fn valaiyoth_check(image: &[u8]) -> u64

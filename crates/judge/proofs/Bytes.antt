@@ -18,7 +18,7 @@ use borrow.Author.Tests.{eqb-true, eqb-false}
 use Rattle.bits.specs.Bit.{bit}
 use Rattle.bits.proofs.Bits.{bit-of-byte}
 use Rattle.table.specs.Fields.{Tells}
-use Rattle.judge.specs.Marks.{markBytes, firstHalf}
+use Rattle.judgement.specs.Marks.{markBytes, firstHalf}
 use Rattle.judge.specs.Search.{situations}
 use Rattle.judge.specs.Inner.{Quiet, FirstSet, Guess, TryRight, Picked}
 use Rattle.judge.specs.declared.pending.Try.{Try}

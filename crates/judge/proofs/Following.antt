@@ -12,10 +12,10 @@ use Rattle.machine.specs.Cell.{Symbol}
 use Rattle.machine.specs.Outcome.{stepFrom, stepTo, OutcomeRight, Steps}
 use Rattle.machine.specs.declared.Outcome.{Outcome}
 use Rattle.machine.specs.declared.Outcome.the-variants.{Goes, Blocked, OverLimit}
-use Rattle.judge.specs.Marks.{HasMark, markOf}
+use Rattle.judgement.specs.Marks.{HasMark, markOf}
 use Rattle.judge.specs.Search.{situations, situationOf, marked, Followed, Searching, Keeps}
 use Rattle.judge.specs.Inner.{suited, RowOpen, RowHere, RowFollowed, Waiting, Expanded}
-use Rattle.judge.proofs.Marks.{mark-below}
+use Rattle.judgement.proofs.Marks.{mark-below}
 use Rattle.judge.proofs.Marking.{marked-followed}
 use Rattle.judge.proofs.Searching.{mark-for, row-blocked, row-above, row-within, rows-done, rows-begin, begun-followed, begun-keeps}
 

@@ -17,11 +17,11 @@ use Rattle.table.proofs.RowList.{rows-number}
 use Rattle.table.specs.Fields.{tableOf, rowOf, Tells}
 use Rattle.machine.specs.Step.{Situation, Takes, Step}
 use Rattle.machine.specs.Run.{Reach, begins, goes, Accepts, Passes}
-use Rattle.judge.specs.Verdict.{Verdict, Yes, No, LimitMet, verdictNumber, IsVerdict}
-use Rattle.judge.specs.Marks.{markBytes, firstHalf, HasMark, markOf, Marks}
+use Rattle.judgement.specs.Verdict.{Verdict, Yes, No, LimitMet, verdictNumber, IsVerdict}
+use Rattle.judgement.specs.Marks.{markBytes, firstHalf, HasMark, markOf, Marks}
 use Rattle.judge.specs.Search.{situations, situationOf, Searched, MarkedAccepts}
 use Rattle.judge.specs.Inner.{verdictOf, Unmarked, Undecided, Decided}
-use Rattle.judge.proofs.Marks.{reached-has-mark, mark-below, mark-of, mark-at}
+use Rattle.judgement.proofs.Marks.{reached-has-mark, mark-below, mark-of, mark-at}
 use Rattle.judge.proofs.Counted.{size-along}
 
 module _ {image w : List ℕ} {L : ℕ} {m : List ℕ} {over : Bool} (found : Searched image w L m over) where

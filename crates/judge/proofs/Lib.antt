@@ -1,7 +1,4 @@
--- Laws of numbered situations, of verdicts, counts and marks, of the search and of judging.
-pub mod Number
-pub mod Verdict
-pub mod Marks
+-- Laws of the search, of the questions asked of its marks, and of the judge's answer.
 pub mod Bytes
 pub mod Marking
 pub mod Searching
@@ -11,5 +8,5 @@ pub mod Picking
 pub mod Counted
 pub mod Found
 pub mod Answers
-pub mod Judges
+pub mod Deciding
 pub mod Refusing

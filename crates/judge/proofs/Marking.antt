@@ -9,7 +9,7 @@ use lib.ListN.{length}
 use borrow.Author.Tests.{eq-eqb, ne-eqb}
 use Rattle.bits.specs.Bit.{bit, withBit}
 use Rattle.bits.proofs.Change.{bit-set, bit-set-other, bit-set-kept, length-withBit}
-use Rattle.judge.specs.Marks.{markBytes}
+use Rattle.judgement.specs.Marks.{markBytes}
 use Rattle.judge.specs.Search.{situations, marked, Followed}
 
 -- marking either changes nothing, where the bit was set, or sets both bits

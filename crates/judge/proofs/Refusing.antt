@@ -11,9 +11,9 @@ use Rattle.table.specs.Refusal.{because, atZero, First, refusal}
 use Rattle.checker.specs.Check.{Checked, wellFormed, malformed, checkedNumber, CheckedRight, Checks}
 use Rattle.table.specs.Fields.{tableOf}
 use Rattle.table.proofs.Encoded.{image-table}
-use Rattle.judge.specs.Judge.{FirstOutside, reasons}
+use Rattle.judgement.specs.Judge.{FirstOutside, reasons}
 use Rattle.judge.specs.Inner.{FirstOther, Refusing}
-use Rattle.judge.proofs.Judges.{same-letters}
+use Rattle.judgement.proofs.Judges.{same-letters}
 
 -- a check that gives 1 found the image of a table, which is what its fields say
 checked-as : (image : List ℕ) (a : Checked) → CheckedRight image a → checkedNumber a ≡ 1 → IsImage (tableOf image) image

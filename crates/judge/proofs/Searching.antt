@@ -15,9 +15,9 @@ use Rattle.table.specs.Fields.{tableOf, rowOf, rowCount}
 use Rattle.machine.specs.Step.{Situation, Takes, Step}
 use Rattle.machine.specs.Run.{Reach, begins, goes, Passes}
 use Rattle.machine.proofs.Steps.{takes-once, same-counter}
-use Rattle.judge.specs.Marks.{markBytes, HasMark, markOf}
+use Rattle.judgement.specs.Marks.{markBytes, HasMark, markOf}
 use Rattle.judge.specs.Search.{situations, situationOf, marked, Followed, RowDone, Ready, Searching, Between, Keeps}
-use Rattle.judge.proofs.Marks.{reached-has-mark, mark-below, mark-of}
+use Rattle.judgement.proofs.Marks.{reached-has-mark, mark-below, mark-of}
 use Rattle.judge.proofs.Marking.{length-marked, marked-kept, marked-only, marked-only-pending, marked-set, marked-followed-before}
 
 -- a row that is done with stays so while marks are added

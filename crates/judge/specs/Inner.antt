@@ -13,10 +13,10 @@ use Rattle.table.specs.Fields.{lettersOf, rowFrom, tableOf, rowCount}
 use Rattle.machine.specs.Cell.{Symbol, symbolOn}
 use Rattle.machine.specs.Step.{symbolFits, counterFits}
 use Rattle.machine.specs.Run.{Reach}
-use Rattle.judge.specs.Verdict.{Verdict, Yes, No, LimitMet, verdictNumber, IsVerdict}
-use Rattle.judge.specs.Marks.{markBytes, firstHalf, Marks}
+use Rattle.judgement.specs.Verdict.{Verdict, Yes, No, LimitMet, verdictNumber, IsVerdict}
+use Rattle.judgement.specs.Marks.{markBytes, firstHalf, Marks}
 use Rattle.judge.specs.Search.{situations, situationOf, Followed, Ready, Searching, Between, Keeps}
-use Rattle.judge.specs.Judge.{reasons, Judgeable}
+use Rattle.judgement.specs.Judge.{reasons, Judgeable}
 use Rattle.judge.specs.declared.pending.Try.{Try}
 use Rattle.judge.specs.declared.pending.Try.the-variants.{Found, Stale, Nothing}
 

@@ -1,6 +1,3 @@
--- What a verdict, its count and its marks are, and what judging promises.
-pub mod Verdict
-pub mod Marks
+-- What the judge's functions promise one another. What they promise together is in crate judgement.
 pub mod Search
-pub mod Judge
 pub mod Inner

@@ -12,7 +12,7 @@ use Rattle.table.specs.WellFormed.{InRange}
 use Rattle.table.specs.Fields.{lettersOf, tableOf, rowOf, rowCount}
 use Rattle.machine.specs.Step.{Situation, Takes}
 use Rattle.machine.specs.Run.{Reach, Passes}
-use Rattle.judge.specs.Marks.{markBytes, firstHalf, markOf}
+use Rattle.judgement.specs.Marks.{markBytes, firstHalf, markOf}
 
 -- how many situations have a bit
 abbrev pub situations : ℕ

@@ -8,9 +8,9 @@ ghost use mathlib.Core.List.{List·Memᴰ};
 ghost use Prim.Native.Nat.{_+_, _<_};
 ghost use lib.ListN.{length};
 ghost use Rattle.table.specs.Fields.{lettersOf, tableOf, Tells};
-ghost use Rattle.judge.specs.Marks.{markBytes};
-ghost use Rattle.judge.specs.Verdict.{verdictNumber};
-ghost use Rattle.judge.specs.Judge.{Judges};
+ghost use Rattle.judgement.specs.Marks.{markBytes};
+ghost use Rattle.judgement.specs.Verdict.{verdictNumber};
+ghost use Rattle.judgement.specs.Judge.{Judges};
 ghost use Rattle.judge.specs.Inner.{AcceptsIn, verdictOf, Undecided, Decided, FirstOther, Refusing};
 ghost use Rattle.judge.specs.Search.{MarkedAccepts};
 

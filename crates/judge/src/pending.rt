@@ -6,7 +6,7 @@ ghost use mathlib.Core.Path.{_≡_};
 ghost use Prim.Native.Nat.{_+_, _^_, _/_, _%_, _≤_, _<_};
 ghost use lib.ListN.{length};
 ghost use Rattle.table.specs.Fields.{Tells};
-ghost use Rattle.judge.specs.Marks.{markBytes};
+ghost use Rattle.judgement.specs.Marks.{markBytes};
 ghost use Rattle.judge.specs.Search.{situations, marked};
 ghost use Rattle.judge.specs.Inner.{Quiet, FirstSet, Guess, TryRight, Picked};
 

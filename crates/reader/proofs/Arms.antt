@@ -13,7 +13,7 @@ use denote.Enum.Declared.{Record, Choice, rowss, intoss, values-one, declared, t
 use types.Run.{OneOf}
 use Rattle.bits.proofs.Tests.{every, and-of}
 use Rattle.text.proofs.Runs.{T-true}
-use Rattle.text.proofs.Sorting.{keyed}
+use Rattle.tokeniser.proofs.Sorting.{keyed}
 
 -- those of n numbers, from a first one on, that pass a test
 abbrev pub passing : (ℕ → Bool) → ℕ → ℕ → List ℕ

@@ -7,7 +7,7 @@ ghost use Rattle.rule.specs.Inside.Class.{Mark, spell};
 ghost use Rattle.rule.specs.Inside.Machine.{exact};
 ghost use Rattle.reader.specs.Inside.Answers.{refusalOf, totals, spot, Ready, Answers};
 use text::Token;
-use text::token_at;
+use tokeniser::token_at;
 
 // The states and rows so far.
 pub struct Counts {

@@ -13,7 +13,7 @@ use super::numbers::out_of_range;
 use text::Sign;
 use text::Token;
 use text::Word;
-use text::token_at;
+use tokeniser::token_at;
 
 // What `read` is compared with.
 pub enum Symbol {

@@ -14,7 +14,7 @@ use super::atoms::rows_of;
 use super::letters::Letters;
 use text::Sign;
 use text::Token;
-use text::token_at;
+use tokeniser::token_at;
 
 // An atom with its rows.
 fn counted_atom_at(text: &[u8], at: usize, counts: Counts, letters: Letters) -> Read

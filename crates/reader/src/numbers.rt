@@ -12,7 +12,7 @@ use super::answers::Read;
 use super::answers::Refusal;
 use super::answers::refuse;
 use text::Token;
-use text::token_at;
+use tokeniser::token_at;
 
 fn digit(byte: u8) -> usize
     requires { ⌜ T (isDigit byte) ⌝ }

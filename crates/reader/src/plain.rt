@@ -12,7 +12,7 @@ use super::numbers::number_at;
 use text::Sign;
 use text::Token;
 use text::Word;
-use text::token_at;
+use tokeniser::token_at;
 
 // `) ;`
 fn close_at(text: &[u8], at: usize, counts: Counts) -> Read

@@ -14,7 +14,7 @@ use super::settings::settings_of;
 use super::statements::block_at;
 use text::Token;
 use text::Word;
-use text::token_at;
+use tokeniser::token_at;
 
 // `string )`
 fn string_at(text: &[u8], at: usize, counts: Counts) -> Read

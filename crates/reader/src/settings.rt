@@ -15,7 +15,7 @@ use super::letters::Letters;
 use text::Sign;
 use text::Token;
 use text::Word;
-use text::token_at;
+use tokeniser::token_at;
 
 // An answer, and the letters so far.
 pub struct Settings {

@@ -18,7 +18,7 @@ use super::plain::move_at;
 use text::Sign;
 use text::Token;
 use text::Word;
-use text::token_at;
+use tokeniser::token_at;
 
 // A block; so many may still be opened.
 pub fn block_at(text: &[u8], at: usize, counts: Counts, letters: Letters, left: usize) -> Read

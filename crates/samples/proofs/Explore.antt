@@ -14,7 +14,7 @@ use Rattle.table.specs.Table.{Row, Table, Accepting}
 use Rattle.machine.specs.Cell.{moved, symbolOn}
 use Rattle.machine.specs.Step.{Situation, Takes, Step, rowFits, changed, symbolFits, counterFits}
 use Rattle.machine.specs.Run.{start, Reach, begins, goes, Accepts, Passes}
-use Rattle.judge.specs.Verdict.{Verdict, Yes, No, LimitMet, IsVerdict}
+use Rattle.judgement.specs.Verdict.{Verdict, Yes, No, LimitMet, IsVerdict}
 use Rattle.bits.proofs.Tests.{every, every-at, and-left, and-right, and-of, or-left, or-right, or-cases}
 use Rattle.samples.proofs.Decide.{_>>=_, passed}
 

@@ -10,7 +10,7 @@ use Rattle.table.specs.Table.{Table, Row}
 use Rattle.table.specs.Image.{encode, rowBytes}
 use Rattle.table.specs.Refusal.{First}
 use Rattle.machine.specs.Run.{Reach}
-use Rattle.judge.specs.Verdict.{Verdict, IsVerdict}
+use Rattle.judgement.specs.Verdict.{Verdict, IsVerdict}
 use Rattle.rule.specs.Tree.{Program}
 use Rattle.construction.specs.Construction.{construct}
 use Rattle.compiler.specs.declared.Answer.the-variants as Answer

@@ -1,7 +1,7 @@
 -- The samples that document 01 marks with a star, as one table.
 use Prim.Native.String.{String, _++_}
 use mathlib.Core.List.{List, [], _∷_}
-use Rattle.judge.specs.Verdict.{Yes, No, LimitMet}
+use Rattle.judgement.specs.Verdict.{Yes, No, LimitMet}
 use Rattle.samples.specs.Sample.{Sample, compiles, refuses, prints, has, image, row, judged}
 
 abbrev H : String → String

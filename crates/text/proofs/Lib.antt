@@ -1,4 +1,4 @@
--- The tokeniser as a function of the bytes, and the laws of a text's tokens.
+-- The tokens as a function of the bytes, and the laws of a text's tokens.
 pub mod Scan
 pub mod Same
 pub mod Runs
@@ -6,10 +6,7 @@ pub mod Reach
 pub mod Front
 pub mod Tokens
 pub mod Rising
-pub mod Sorting
 pub mod Named
 pub mod Signed
-pub mod Comes
-pub mod Standing
 pub mod Once
 pub mod Follow

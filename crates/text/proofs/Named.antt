@@ -5,10 +5,29 @@ use mathlib.Core.Bool.{Bool, true, false, true≢false}
 use mathlib.Core.List.{List, [], _∷_}
 use Rattle.bits.proofs.Tests.{sameList, same-list}
 use Rattle.text.specs.First.{Name, reserved, unreserved, name, IsNamed, IsWord}
-use Rattle.text.specs.Inside.{allWords, NoneOf, none, _nor_}
 use Rattle.text.specs.declared.Word.{Word}
 use Rattle.text.specs.declared.Word.the-variants as Word
 use Rattle.text.proofs.Runs.{true-T}
+
+-- the reserved words as they are compared, the last first: those of a program's head, of plain statements, of statements that
+-- hold blocks, and of conditions
+abbrev pub headWords : List Word
+headWords = Word.String ∷ Word.Twoc ∷ Word.False ∷ Word.True ∷ Word.DecrOnZero ∷ Word.Alphabet ∷ []
+
+abbrev pub plainWords : List Word
+plainWords = Word.Reject ∷ Word.Accept ∷ Word.C ∷ Word.Goto ∷ Word.Move ∷ headWords
+
+abbrev pub blockWords : List Word
+blockWords = Word.Also ∷ Word.Branch ∷ Word.Choose ∷ Word.While ∷ Word.Else ∷ Word.If ∷ plainWords
+
+abbrev pub allWords : List Word
+allWords = Word.Rend ∷ Word.Lend ∷ Word.Read ∷ blockWords
+
+infixr 40 _nor_
+-- these bytes are none of these words
+pub data NoneOf : List Word → List ℕ → Type 0 where
+  none : {l : List ℕ} → NoneOf [] l
+  _nor_ : {x : Word} {xs : List Word} {l : List ℕ} → ¬ (name x ≡ reserved l) → NoneOf xs l → NoneOf (x ∷ xs) l
 
 -- bytes that differ from a word's are not that word
 pub differs : {l bytes : List ℕ} {r : Bool} → (l ≡ bytes → r ≡ true) → r ≡ false → ¬ (reserved bytes ≡ reserved l)

@@ -9,10 +9,9 @@ use Rattle.text.specs.Token.{word, number, letter, sign, Spells, aWord, 
 use Rattle.text.specs.Token as Spec
 use Rattle.text.specs.Tokens.{Placed, _at_, Ending, ends, broken, Tokens}
 use Rattle.text.specs.First.{part, Next, Begins, First}
-use Rattle.text.specs.Inside.{allWords}
 use Rattle.text.specs.declared.Token.{Token}
 use Rattle.text.specs.declared.Token.the-variants as Token
-use Rattle.text.proofs.Named.{found, word-is}
+use Rattle.text.proofs.Named.{allWords, found, word-is}
 use Rattle.text.proofs.Signed.{signOf, allSigns, sign-is}
 use Rattle.text.proofs.Tokens.{tokens-once}
 

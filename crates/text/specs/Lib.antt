@@ -2,4 +2,3 @@
 pub mod Token
 pub mod Tokens
 pub mod First
-pub mod Inside

@@ -1,14 +1,4 @@
-// The tokens of a text, one at a time: whoever reads a text asks for what comes first from a byte on, and goes on where that ends.
-ghost use Rattle.text.specs.First.{First};
-
-mod ends; // where a run of bytes ends
-mod kinds; // the kind of a byte
-mod signs; // the signs
-mod steps; // what stands at a byte
-mod words; // the reserved words
-
-use steps::Step;
-use steps::step_at;
+// What the tokens of a text are, in definitions and their laws, and the types that name them in code.
 
 // The reserved words, and Other for a word that is not reserved.
 pub enum Word {
@@ -65,22 +55,4 @@ pub enum Token {
     Sign { at: usize, end: usize, sign: Sign },
     End { at: usize },
     Broken { at: usize },
-}
-
-// What comes first from a byte on, past white space and comments.
-pub fn token_at(text: &[u8], from: usize) -> Token
-    ensures { λ r. ⌜ First (now (text .entry)) from r ⌝ }
-{
-    let mut at = from;
-    while at < text.len() {
-        match step_at(text, at) {
-            Step::Blank { next } => {
-                at = next;
-            }
-            Step::Token(token) => {
-                return token;
-            }
-        }
-    }
-    Token::End { at }
 }

@@ -13,10 +13,10 @@ use Rattle.table.specs.Image.{encode}
 use Rattle.table.proofs.Image.{table-once}
 use Rattle.table.proofs.Refusal.{first-has}
 use Rattle.machine.specs.Run.{Accepts}
-use Rattle.judge.specs.Verdict.{Verdict, Yes, No, LimitMet, verdictNumber, IsVerdict}
-use Rattle.judge.specs.Judge.{Judgeable, Answer, judged, refused, answerNumber, AnswerRight, Judged, Judges, reasons}
-use Rattle.judge.proofs.Verdict.{verdict-once, count-at-most}
-use Rattle.judge.proofs.Judges.{no-reason, reasons-numbered}
+use Rattle.judgement.specs.Verdict.{Verdict, Yes, No, LimitMet, verdictNumber, IsVerdict}
+use Rattle.judgement.specs.Judge.{Judgeable, Answer, judged, refused, answerNumber, AnswerRight, Judged, Judges, reasons}
+use Rattle.judgement.proofs.Verdict.{verdict-once, count-at-most}
+use Rattle.judgement.proofs.Judges.{no-reason, reasons-numbered}
 use Rattle.rule.specs.Tree.{Program, letterBytes}
 use Rattle.construction.specs.Construction.{construct}
 use Rattle.construction.specs.Agreement.{Agree}

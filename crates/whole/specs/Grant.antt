@@ -3,7 +3,7 @@ use Prim.Native.Nat.{ℕ, _/_, _≤_, _<_}
 use mathlib.Core.Path.{_≡_}
 use mathlib.Core.List.{List, List·Memᴰ}
 use lib.ListN.{length, getD}
-use Rattle.judge.specs.Marks.{markBytes}
+use Rattle.judgement.specs.Marks.{markBytes}
 use Rattle.rule.specs.Tree.{Program, letterBytes}
 use Rattle.rule.specs.Meaning.{ProgramAccepts}
 

@@ -1,7 +1,7 @@
 -- `judge::judge` meets its contract: a refusal leaves the marks as they were, and all else is decided.
 use borrow.Author.Needs.{needs}
 use mathlib.Core.Path.{refl}
-use Rattle.judge.proofs.Judges.{judges-refused, judges-decided, judgeable-undecided}
+use Rattle.judge.proofs.Deciding.{judges-refused, judges-decided, judgeable-undecided}
 use Rattle.judge.proofs.judge.Statement.{statement}
 use Rattle.judge.proofs.judge.Tie as tie
 

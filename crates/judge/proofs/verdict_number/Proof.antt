@@ -1,6 +1,6 @@
 -- `judge::verdict_number` meets its contract.
 use mathlib.Core.Path.{refl}
-use Rattle.judge.specs.Verdict.{verdictNumber}
+use Rattle.judgement.specs.Verdict.{verdictNumber}
 use Rattle.judge.specs.Inner.{verdictOf}
 use Rattle.judge.proofs.verdict_number.Statement.{statement}
 use Rattle.judge.proofs.verdict_number.Tie as tie

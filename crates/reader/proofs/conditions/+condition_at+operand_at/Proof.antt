@@ -23,7 +23,7 @@ use Rattle.reader.proofs.conditions.+condition_at+operand_at.Lts-operan
 use Rattle.reader.proofs.answers.Counts.plus.Reads as plus-reads
 use Rattle.reader.proofs.answers.refuse.Reads as refuse-reads
 use Rattle.reader.proofs.conditions.counted_atom_at.Reads as counted-atom-at-reads
-use Rattle.text.proofs.token_at.Reads as token-at-reads
+use Rattle.tokeniser.proofs.token_at.Reads as token-at-reads
 use Rattle.reader.proofs.conditions.+condition_at+operand_at.{statement}
 use Rattle.reader.proofs.conditions.+condition_at+operand_at.Tie.{close}
 

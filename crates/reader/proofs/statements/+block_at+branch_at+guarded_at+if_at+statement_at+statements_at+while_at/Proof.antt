@@ -68,7 +68,7 @@ use Rattle.reader.proofs.plain.change_at.Reads as change-at-reads
 use Rattle.reader.proofs.plain.goto_at.Reads as goto-at-reads
 use Rattle.reader.proofs.plain.move_at.Reads as move-at-reads
 use Rattle.reader.proofs.statements.last_arm.Reads as last-arm-reads
-use Rattle.text.proofs.token_at.Reads as token-at-reads
+use Rattle.tokeniser.proofs.token_at.Reads as token-at-reads
 use Rattle.reader.proofs.statements.+block_at+branch_at+guarded_at+if_at+statement_at+statements_at+while_at.{
   statement,
 }

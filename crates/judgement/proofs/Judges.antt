@@ -1,0 +1,145 @@
+-- Judging has one result: the number and the marks are settled by the image, the word, the limit and the marks before.
+use Prim.Native.Nat.{ℕ, _/_, _≤_, _<_}
+use native.Mathlib.Nat.{le-refl, add-le-add, mul-le-mul}
+use native.Mathlib.Omega.{arith}
+use mathlib.Core.Path.{_≡_, sym, ap, ap₂, _∙_, subst}
+use mathlib.Core.List.{List, List·Memᴰ}
+use Rattle.bits.specs.Size.{Size}
+use Rattle.bits.proofs.Size.{size-once}
+use Rattle.table.specs.Table.{Table}
+use Rattle.table.specs.WellFormed.{IsImage}
+use Rattle.table.proofs.Image.{table-once}
+use Rattle.table.proofs.Refusal.{Single, Gives, Each, single-because, single-at-zero, first-once, first-has}
+use Rattle.machine.specs.Run.{Reach, Accepts}
+use Rattle.machine.proofs.Run.{no-everywhere}
+use Rattle.judgement.specs.Verdict.{Verdict, Yes, No, LimitMet, verdictNumber, IsVerdict}
+use Rattle.judgement.specs.Marks.{Marks}
+use Rattle.judgement.specs.Judge.{FirstOutside, reasons, Judgeable, Answer, judged, refused, answerNumber, Judged, Refused, AnswerRight, Judges}
+use Rattle.judgement.proofs.Verdict.{verdict-once, verdict-never-zero, count-at-most}
+use Rattle.judgement.proofs.Marks.{marks-once}
+
+-- a letter of the one table of an image is a letter of the other
+pub same-letters
+    : {image : List ℕ} {t u : Table} {x : ℕ} → IsImage t image → IsImage u image → List·Memᴰ x (t .alphabet) → List·Memᴰ x (u .alphabet)
+same-letters {x = x} a b = subst (λ (t : Table). List·Memᴰ x (t .alphabet)) (table-once a b)
+
+-- the first byte that is no letter does not stand before another first one
+not-before : {image word : List ℕ} {p q : ℕ} → FirstOutside image word p → FirstOutside image word q → ¬ (p < q)
+not-before {p = p} a b before = a .outside (same-letters (b .isImage) (a .isImage) (b .before p before))
+
+-- the first byte that is no letter stands at one index
+first-outside-once : {image word : List ℕ} {p q : ℕ} → FirstOutside image word p → FirstOutside image word q → p ≡ q
+first-outside-once a b = omega (arith, not-before a b, not-before b a)
+
+-- each reason to refuse gives at most one number and place
+reasons-single : (image word : List ℕ) (limit : ℕ) (before : List ℕ) → Each Single (reasons image word limit before)
+reasons-single image word limit before =
+    (single-at-zero, (single-at-zero, (single-because (λ p q. first-outside-once), (single-at-zero, (single-at-zero, tt)))))
+
+-- where every byte of a word is a letter, none is the first that is not
+all-letters : {t : Table} {image word marks : List ℕ} {limit p : ℕ} → Judgeable t image word limit marks → ¬ FirstOutside image word p
+all-letters {p = p} j f = f .outside (same-letters (j .isImage) (f .isImage) (j .letters p (f .inside)))
+
+-- what is to be judged has no reason to be refused
+pub no-reason
+    : (image word : List ℕ) (limit : ℕ) (before : List ℕ) {t : Table} → Judgeable t image word limit before
+    → Each (Gives (λ n p. ⊥)) (reasons image word limit before)
+no-reason image word limit before {t} j =
+    (λ n p r. r .1 .1 (t, j .isImage), (λ n p r. omega arith, (λ n p r. all-letters j (r .1), (λ n p r. omega arith, (λ n p r. r .1 .1 (j .room), tt)))))
+
+-- every reason to refuse gives a number from 21 on
+pub reasons-numbered : (image word : List ℕ) (limit : ℕ) (before : List ℕ) → Each (Gives (λ n p. 21 ≤ n)) (reasons image word limit before)
+reasons-numbered image word limit before = omega arith
+
+module _ {image word : List ℕ} {limit : ℕ} {before after after′ : List ℕ} where
+  -- two refusals give the same number and place and leave the same marks
+  refused-once
+      : {n m p q : ℕ} → Refused image word limit before after n p → Refused image word limit before after′ m q
+      → (refused n p ≡ refused m q) × (after ≡ after′)
+  refused-once a b =
+      let same = first-once (reasons image word limit before) (reasons-single image word limit before) (a .first) (b .first) in
+      (ap₂ refused (same .0) (same .1), a .unchanged ∙ sym (b .unchanged))
+
+  -- two judgements give the same verdict and count and leave the same marks
+  judged-once
+      : {v v′ : Verdict} {c c′ : ℕ} → Judged image word limit before after v c → Judged image word limit before after′ v′ c′
+      → (judged v c ≡ judged v′ c′) × (after ≡ after′)
+  judged-once {v} {v′} {c} {c′} a b =
+      (ap₂ judged (verdict-once (a .table) word limit v v′ (a .verdict) (other .0)) (size-once (a .count) (other .1)), marks-once (a .marks) (other .2))
+    where
+      other : IsVerdict (a .table) word limit v′ × Size (Reach (a .table) word limit) c′ × Marks (a .table) word limit after′
+      other =
+          subst (λ (t : Table). IsVerdict t word limit v′ × Size (Reach t word limit) c′ × Marks t word limit after′)
+          (table-once (b .judgeable .isImage) (a .judgeable .isImage)) (b .verdict, b .count, b .marks)
+
+  -- what is judged is not refused
+  never-both : {v : Verdict} {c n p : ℕ} → Judged image word limit before after v c → ¬ Refused image word limit before after′ n p
+  never-both a b = first-has (λ n p. ⊥) (reasons image word limit before) (no-reason image word limit before (a .judgeable)) (b .first)
+
+-- two right answers are equal, and the marks after them too
+answer-once
+    : (image word : List ℕ) (limit : ℕ) (before : List ℕ) {after after′ : List ℕ} (a b : Answer)
+    → AnswerRight image word limit before after a → AnswerRight image word limit before after′ b
+    → (a ≡ b) × (after ≡ after′)
+answer-once image word limit before (judged v c) (judged v′ c′) a b = judged-once a b
+answer-once image word limit before (judged v c) (refused n p) a b = absurd (never-both a b)
+answer-once image word limit before (refused n p) (judged v c) a b = absurd (never-both b a)
+answer-once image word limit before (refused n p) (refused m q) a b = refused-once a b
+
+-- two results of judging are equal, and so are the marks that they leave
+pub judges-once
+    : {image word : List ℕ} {limit : ℕ} {before after after′ : List ℕ} {r r′ : ℕ}
+    → Judges image word limit before after r → Judges image word limit before after′ r′ → (r ≡ r′) × (after ≡ after′)
+judges-once {image} {word} {limit} {before} a b =
+    let same = answer-once image word limit before (a .answer) (b .answer) (a .right) (b .right) in
+    (a .number ∙ ap answerNumber (same .0) ∙ sym (b .number), same .1)
+
+-- no right answer has the number 0
+answer-never-zero
+    : (image word : List ℕ) (limit : ℕ) (before after : List ℕ) (a : Answer) → AnswerRight image word limit before after a → 1 ≤ answerNumber a
+unfolding answerNumber
+answer-never-zero image word limit before after (judged v c) a = omega (arith, verdict-never-zero v)
+answer-never-zero image word limit before after (refused n p) a =
+    omega (arith, first-has (λ n p. 21 ≤ n) (reasons image word limit before) (reasons-numbered image word limit before) (a .first))
+
+-- judging never gives 0
+pub judges-never-zero
+    : {image word : List ℕ} {limit : ℕ} {before after : List ℕ} {r : ℕ} → Judges image word limit before after r → 1 ≤ r
+judges-never-zero {image} {word} {limit} {before} {after} a =
+    rw (a .number) (answer-never-zero image word limit before after (a .answer) (a .right))
+
+-- a no is a no at every height of the counter
+pub no-at-every-height
+    : {image word : List ℕ} {limit : ℕ} {before after : List ℕ} {count : ℕ} → Judged image word limit before after No count
+    → {t : Table} → IsImage t image → (M : ℕ) → ¬ Accepts t word M
+no-at-every-height {word = word} a is M =
+    subst (λ (t : Table). ¬ Accepts t word M) (table-once (a .judgeable .isImage) is) (no-everywhere (a .verdict .0) (a .verdict .1) M)
+
+-- the count of what is judged is below a million, so the number tells the verdict
+count-small
+    : {image word : List ℕ} {limit : ℕ} {before after : List ℕ} {v : Verdict} {count : ℕ} → Judged image word limit before after v count → count < 1000000
+count-small a =
+    let j = a .judgeable in
+    omega (
+      arith,
+      count-at-most (j .isImage .inRange) (a .count),
+      mul-le-mul (mul-le-mul (j .isImage .inRange .fewStates) (add-le-add (j .short) (le-refl 2))) (add-le-add (j .low) (le-refl 1)),
+    )
+
+-- the answer whose number begins with 2 is a no
+answer-no
+    : (image word : List ℕ) (limit : ℕ) (before after : List ℕ) (a : Answer) → AnswerRight image word limit before after a → answerNumber a / 1000000 ≡ 2
+    → (count : ℕ) × Judged image word limit before after No count
+unfolding answerNumber verdictNumber
+answer-no image word limit before after (judged Yes count) a two = absurd (omega (arith, count-small a))
+answer-no image word limit before after (judged No count) a two = (count, a)
+answer-no image word limit before after (judged LimitMet count) a two = absurd (omega (arith, count-small a))
+answer-no image word limit before after (refused n p) a two =
+    absurd (omega (arith, first-has (λ n p. 21 ≤ n) (reasons image word limit before) (reasons-numbered image word limit before) (a .first)))
+
+-- so where the judge says no, no run accepts, however high the counter may go
+pub says-no
+    : {image word : List ℕ} {limit : ℕ} {before after : List ℕ} {r : ℕ} → Judges image word limit before after r → r / 1000000 ≡ 2
+    → {t : Table} → IsImage t image → (M : ℕ) → ¬ Accepts t word M
+says-no {image} {word} {limit} {before} {after} j two =
+    no-at-every-height (answer-no image word limit before after (j .answer) (j .right) (rw (← (j .number)) two) .1)

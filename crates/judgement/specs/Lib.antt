@@ -1,0 +1,4 @@
+-- What a verdict, its count and its marks are, and what judging promises.
+pub mod Verdict
+pub mod Marks
+pub mod Judge
