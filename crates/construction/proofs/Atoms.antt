@@ -10,8 +10,8 @@ use lib.ListN.{length, getD}
 use lib.Dec.{ltb, eqb}
 use borrow.Author.Tests.{eqb-true, eqb-false, eq-eqb, ne-eqb, lt-ltb, le-ltb, not-true, not-false}
 use Rattle.table.specs.Table.{Row}
-use Rattle.machine.specs.Cell as Cell
-use Rattle.machine.specs.Cell.{Symbol}
+use Rattle.cells.specs.Cell as Cell
+use Rattle.cells.specs.Cell.{Symbol}
 use Rattle.machine.specs.Step.{symbolFits, counterFits}
 use Rattle.rule.specs.Limits.{value}
 use Rattle.rule.specs.Tree.{Number, Sought, letter, lend, rend, Atom, readIs, readIsNot, counterIs, counterIsNot}

@@ -9,7 +9,7 @@ use mathlib.Core.Option.{some}
 use mathlib.Core.List.{List, [], _∷_}
 use borrow.Author.Tests.{ne-eqb, le-leb, lt-leb}
 use Rattle.table.specs.Table.{Row}
-use Rattle.machine.specs.Cell.{last, moved}
+use Rattle.cells.specs.Cell.{last, moved}
 use Rattle.machine.specs.Step.{changed}
 use Rattle.rule.specs.Tree.{
   Atom,

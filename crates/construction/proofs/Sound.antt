@@ -7,7 +7,7 @@ use mathlib.Core.Bool.{Bool, true, false, not}
 use mathlib.Core.Option.{some, Option·some-injective}
 use mathlib.Core.List.{List, _∷_, _++_, List·Memᴰ}
 use Rattle.table.specs.Table.{Row}
-use Rattle.machine.specs.Cell.{Symbol, symbolOn, last, moved}
+use Rattle.cells.specs.Cell.{Symbol, symbolOn, last, moved}
 use Rattle.machine.specs.Step.{Situation, symbolFits, counterFits, changed, Takes}
 use Rattle.machine.proofs.RowFits.{row-fits}
 use Rattle.rule.specs.Tree.{

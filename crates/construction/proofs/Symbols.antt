@@ -28,8 +28,8 @@ use lib.ListN.{length, length-append, getD}
 use lib.Dec.{eqb}
 use borrow.Author.Tests.{eqb-true, eqb-false, eq-eqb, ne-eqb}
 use Rattle.table.specs.Table.{Row}
-use Rattle.machine.specs.Cell as Cell
-use Rattle.machine.specs.Cell.{Symbol}
+use Rattle.cells.specs.Cell as Cell
+use Rattle.cells.specs.Cell.{Symbol}
 use Rattle.rule.specs.Tree.{Sought, letter, lend, rend}
 use Rattle.rule.proofs.Within.{SoughtWithin}
 use Rattle.construction.specs.Construction.{

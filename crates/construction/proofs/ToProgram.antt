@@ -4,7 +4,7 @@ use mathlib.Core.Path.{_≡_, sym, _∙_}
 use mathlib.Core.Bool.{true, false}
 use mathlib.Core.List.{List, [], _∷_}
 use Rattle.table.specs.Table.{Row}
-use Rattle.machine.specs.Cell.{Symbol}
+use Rattle.cells.specs.Cell.{Symbol}
 use Rattle.rule.specs.Tree.{
   Condition,
   Statement,

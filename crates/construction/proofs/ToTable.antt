@@ -6,7 +6,7 @@ use mathlib.Core.Logic.{_⊎_, ⊎-elim}
 use mathlib.Core.Bool.{Bool, true, false, not}
 use mathlib.Core.Option.{some}
 use Rattle.table.specs.Table.{Row, Accepting}
-use Rattle.machine.specs.Cell.{symbolOn, last}
+use Rattle.cells.specs.Cell.{symbolOn, last}
 use Rattle.machine.specs.Step.{symbolFits, counterFits, Takes}
 use Rattle.machine.specs.Run.{Reach, begins, goes, Accepts}
 use Rattle.machine.proofs.RowFits.{any-fits, either-fits, fits-row}

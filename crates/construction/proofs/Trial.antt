@@ -8,7 +8,7 @@ use lib.ListN.{length, getD}
 use lib.Dec.{ltb}
 use borrow.Author.Tests.{ltb-true}
 use Rattle.table.specs.Table.{Table}
-use Rattle.machine.specs.Cell.{letter, rightMark, symbolOn, last}
+use Rattle.cells.specs.Cell.{letter, rightMark, symbolOn, last}
 use Rattle.rule.specs.Tree.{Statements, done, _then_, Program}
 use Rattle.rule.specs.Limits.{faults}
 use Rattle.rule.specs.Meaning.{_before_, Standing, does, turns, Comes, begins, goes}

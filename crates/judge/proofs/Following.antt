@@ -8,7 +8,7 @@ use Rattle.bits.specs.Bit.{withoutBit}
 use Rattle.table.specs.Table.{Row, Table}
 use Rattle.table.specs.Fields.{byteAt, twoAt, rowFrom, tableOf, rowOf, rowCount}
 use Rattle.machine.specs.Step.{Situation, symbolFits, counterFits, rowFits, Takes}
-use Rattle.machine.specs.Cell.{Symbol}
+use Rattle.cells.specs.Cell.{Symbol}
 use Rattle.machine.specs.Outcome.{stepFrom, stepTo, OutcomeRight, Steps}
 use Rattle.machine.specs.declared.Outcome.{Outcome}
 use Rattle.machine.specs.declared.Outcome.the-variants.{Goes, Blocked, OverLimit}

@@ -10,7 +10,7 @@ use Rattle.bits.specs.Size.{Size}
 use Rattle.table.specs.Table.{Accepting}
 use Rattle.table.specs.Refusal.{First, refusal}
 use Rattle.table.specs.Fields.{lettersOf, rowFrom, tableOf, rowCount}
-use Rattle.machine.specs.Cell.{Symbol, symbolOn}
+use Rattle.cells.specs.Cell.{Symbol, symbolOn}
 use Rattle.machine.specs.Step.{symbolFits, counterFits}
 use Rattle.machine.specs.Run.{Reach}
 use Rattle.judgement.specs.Verdict.{Verdict, Yes, No, LimitMet, verdictNumber, IsVerdict}

@@ -2,12 +2,12 @@
 use super::pending::SITUATIONS;
 use super::pending::mark;
 use super::pending::pick;
+use cells::Symbol;
 use machine::Outcome;
-use machine::Symbol;
 ghost use mathlib.Core.Path.{_≡_};
 ghost use Prim.Native.Nat.{_+_, _*_, _≤_};
 ghost use lib.ListN.{length};
-ghost use Rattle.machine.specs.Code.{symbolIs};
+ghost use Rattle.cells.specs.Code.{symbolIs};
 ghost use Rattle.judge.specs.Search.{Searched};
 ghost use Rattle.judge.specs.Inner.{suited, RowOpen, RowHere, RowFollowed, Waiting, Expanded, Unmarked};
 
@@ -99,7 +99,7 @@ fn expand(
     bits::clear_bit(marks, i + SITUATIONS);
     let rows = table::row_count(image);
     let first = table::letter_count(image) + 38;
-    let symbol = machine::head::seen(word, i / 32 % 64);
+    let symbol = cells::head::seen(word, i / 32 % 64);
     let mut past = over;
     for r in 0..rows {
         past = visit(

@@ -9,7 +9,7 @@ use lib.ListN.{length, getD, drop, length-take, length-drop}
 use lib.Dec.{ltb, eqb, leb·zero}
 use borrow.Author.Tests.{lt-ltb, le-ltb, le-leb, lt-leb, eq-eqb, ne-eqb}
 use Rattle.table.specs.Fields.{lettersOf, letterOf, tableOf}
-use Rattle.machine.specs.Cell.{Symbol, leftMark, letter, rightMark}
+use Rattle.cells.specs.Cell.{Symbol, leftMark, letter, rightMark}
 use Rattle.machine.specs.Step.{symbolFits, counterFits, changed}
 use Rattle.machine.specs.declared.Outcome.the-variants.{Goes, Blocked, OverLimit}
 use Rattle.machine.specs.Outcome.{outcomeOf}

@@ -7,7 +7,7 @@ use lib.ListN.{length, getD}
 use lib.Dec.{eqb, ltb}
 use borrow.Author.Tests.{eqb-true, eq-eqb}
 use Rattle.table.specs.Table.{Row, Table}
-use Rattle.machine.specs.Cell.{Symbol, leftMark, letter, rightMark, symbolOn}
+use Rattle.cells.specs.Cell.{Symbol, leftMark, letter, rightMark, symbolOn}
 use Rattle.machine.specs.Step.{Situation, symbolFits, counterFits, rowFits}
 
 -- a row fits: it starts from the state, and both its tests pass

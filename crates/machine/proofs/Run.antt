@@ -8,7 +8,7 @@ use mathlib.Core.List.{List}
 use lib.Dec.{eqb}
 use Rattle.table.specs.Table.{Table}
 use Rattle.table.specs.WellFormed.{InRange}
-use Rattle.machine.specs.Cell.{last, moved}
+use Rattle.cells.specs.Cell.{last, moved}
 use Rattle.machine.specs.Step.{Situation, Step}
 use Rattle.machine.specs.Run.{Reach, begins, goes, Accepts, Passes}
 

@@ -9,7 +9,7 @@ use native.Mathlib.Decide.{decLe}
 use lib.Dec.{leb}
 use borrow.Author.Tests.{le-leb, lt-leb, eq-eqb}
 use Rattle.table.specs.Table.{Row, Table}
-use Rattle.machine.specs.Cell.{symbolOn, moved}
+use Rattle.cells.specs.Cell.{symbolOn, moved}
 use Rattle.machine.specs.Step.{Situation, symbolFits, counterFits, changed, rowFits, Takes}
 use Rattle.machine.specs.declared.Outcome.{Outcome}
 use Rattle.machine.specs.declared.Outcome.the-variants.{Goes, Blocked, OverLimit}

@@ -7,7 +7,7 @@ use mathlib.Core.List.{List, List·Memᴰ}
 use lib.ListN.{length, getD}
 use lib.Dec.{leb, ltb, eqb}
 use Rattle.table.specs.Table.{Row, Table}
-use Rattle.machine.specs.Cell.{Symbol, leftMark, letter, rightMark, symbolOn, moved}
+use Rattle.cells.specs.Cell.{Symbol, leftMark, letter, rightMark, symbolOn, moved}
 
 pub record Situation : Type 0 where
   pub state : ℕ

@@ -1,26 +1,18 @@
-// A head on a word, as the word and a cell, and one row's step.
+// One row's step: whether it can be taken, and what it comes to within a limit.
+use cells::Symbol;
+use cells::head;
 use table::Row;
-
-pub mod head; // head.rt: a head, as a struct that holds the word
-
 ghost use mathlib.Core.Path.{_≡_};
 ghost use mathlib.Core.Bool.{_&&_};
 ghost use mathlib.Core.Option.{some};
-ghost use Prim.Native.Nat.{_+_, min};
+ghost use Prim.Native.Nat.{_+_};
 ghost use lib.ListN.{length, getD};
 ghost use lib.Dec.{ltb, eqb};
 ghost use Rattle.table.specs.Fields.{tableOf};
 ghost use Rattle.table.specs.RowCode.{rowIs};
-ghost use Rattle.machine.specs.Cell.{symbolOn, moved};
-ghost use Rattle.machine.specs.Code.{symbolIs};
+ghost use Rattle.cells.specs.Code.{symbolIs};
 ghost use Rattle.machine.specs.Step.{symbolFits, counterFits, changed};
 ghost use Rattle.machine.specs.Outcome.{stepFrom, outcomeOf, Steps};
-
-pub enum Symbol {
-    LeftMark,
-    Letter(u8),
-    RightMark,
-}
 
 // What a row's step comes to: a cell and a counter, or the row can't be taken, or it would pass the limit.
 pub enum Outcome {
@@ -33,46 +25,6 @@ fn wide(code: u8) -> usize
     ensures { λ r. ⌜ r ≡ code ⌝ }
 {
     code as usize
-}
-
-fn at_most(n: usize, most: usize) -> usize
-    ensures { λ r. ⌜ r ≡ min n most ⌝ }
-{
-    if n < most { n } else { most }
-}
-
-// What stands on a cell; a cell past the right mark's is taken as that.
-pub fn looked(word: &[u8], cell: usize) -> Symbol
-    ensures { λ r. ⌜ symbolIs r ≡ symbolOn (now (word .entry)) cell ⌝ }
-{
-    if cell == 0 {
-        return Symbol::LeftMark;
-    }
-    let i = cell - 1;
-    if i < word.len() {
-        Symbol::Letter(word[i])
-    } else {
-        Symbol::RightMark
-    }
-}
-
-// Where a row's move leads from a cell.
-pub fn moved(word: &[u8], code: u8, cell: usize) -> usize
-    ensures { λ r. ⌜ r ≡ moved (now (word .entry)) code cell ⌝ }
-{
-    let end = word.len() + 1;
-    if code == 0 {
-        return 0;
-    }
-    if code == 128 {
-        return end;
-    }
-    let from = at_most(cell, end);
-    let sum = from + wide(code);
-    if sum <= 64 {
-        return 0;
-    }
-    at_most(sum - 64, end)
 }
 
 // Whether a row's symbol is a letter of the alphabet, and this one.

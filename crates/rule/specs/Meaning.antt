@@ -5,8 +5,8 @@ use mathlib.Core.Bool.{Bool, true, false, cond, not, _&&_, _||_}
 use mathlib.Core.Option.{Option, none, some}
 use mathlib.Core.List.{List}
 use lib.Dec.{leb, eqb}
-use Rattle.machine.specs.Cell as Cell
-use Rattle.machine.specs.Cell.{Symbol, leftMark, rightMark, symbolOn, last}
+use Rattle.cells.specs.Cell as Cell
+use Rattle.cells.specs.Cell.{Symbol, leftMark, rightMark, symbolOn, last}
 use Rattle.rule.specs.Tree.{Sought, letter, lend, rend, Atom, readIs, readIsNot, counterIs, counterIsNot, Condition, atom, parens, negation, both, either, Plain, moveBy, moveBack, gotoLend, gotoRend, increment, decrement, add, subtract, Statement, plain, accept, if, ifElse, while, choose, branch, Statements, done, _then_, Arms, lastArm, moreArms, Program}
 use Rattle.rule.specs.Limits.{value}
 

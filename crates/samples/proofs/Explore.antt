@@ -11,7 +11,7 @@ use lib.ListN.{length}
 use Rattle.bits.specs.Bit.{bit}
 use Rattle.bits.specs.Size.{Size}
 use Rattle.table.specs.Table.{Row, Table, Accepting}
-use Rattle.machine.specs.Cell.{moved, symbolOn}
+use Rattle.cells.specs.Cell.{moved, symbolOn}
 use Rattle.machine.specs.Step.{Situation, Takes, Step, rowFits, changed, symbolFits, counterFits}
 use Rattle.machine.specs.Run.{start, Reach, begins, goes, Accepts, Passes}
 use Rattle.judgement.specs.Verdict.{Verdict, Yes, No, LimitMet, IsVerdict}

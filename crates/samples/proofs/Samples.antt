@@ -1,7 +1,7 @@
 -- The starred samples of document 01 hold, all of them: one theorem, by computing. A line more needs no proof more.
 use Rattle.bits.specs.Bit.{bit, withBit}
 use Rattle.table.specs.Image.{encode, field, twoBytes, rowBytes, rowsBytes, flag}
-use Rattle.machine.specs.Cell.{symbolOn, moved}
+use Rattle.cells.specs.Cell.{symbolOn, moved}
 use Rattle.machine.specs.Step.{symbolFits, counterFits, changed, rowFits}
 use Rattle.text.proofs.Scan.{scan}
 use Rattle.rule.specs.Inside.Machine.{outcome}

@@ -1,7 +1,7 @@
 -- `machine::symbol_fits` meets its contract: any symbol fits, and each other is compared with what stands there.
 use borrow.Author.Needs.{needs}
 use mathlib.Core.Path.{sym, _∙_}
-use Rattle.machine.specs.Code.{symbolIs}
+use Rattle.cells.specs.Code.{symbolIs}
 use Rattle.machine.proofs.Fits.{symbol-any, symbol-left, symbol-letter, symbol-right}
 use Rattle.machine.proofs.symbol_fits.Statement.{statement}
 use Rattle.machine.proofs.symbol_fits.Tie as tie

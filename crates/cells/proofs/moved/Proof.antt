@@ -1,8 +1,8 @@
--- `machine::moved` meets its contract: each answer is where its case of a move leads.
+-- `cells::moved` meets its contract: each answer is where its case of a move leads.
 use borrow.Author.Needs.{needs}
-use Rattle.machine.proofs.Cells.{moves-left, moves-right, moves-by, moves-back}
-use Rattle.machine.proofs.moved.Statement.{statement}
-use Rattle.machine.proofs.moved.Tie as tie
+use Rattle.cells.proofs.Cells.{moves-left, moves-right, moves-by, moves-back}
+use Rattle.cells.proofs.moved.Statement.{statement}
+use Rattle.cells.proofs.moved.Tie as tie
 use mathlib.Core.Path.{sym, _∙_}
 
 add-end : tie.Need-add-end

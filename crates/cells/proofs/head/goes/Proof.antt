@@ -1,4 +1,4 @@
--- `machine::head::goes` meets its contract: a walk of its MIR, by hand. The head that `on` makes is passed to `by`, and of the head that this gives the cell is read. All that the proof knows of the two is that each meets its contract.
+-- `cells::head::goes` meets its contract: a walk of its MIR, by hand. The head that `on` makes is passed to `by`, and of the head that this gives the cell is read. All that the proof knows of the two is that each meets its contract.
 use mathlib.Core.Path.{_≡_, refl, ap, ap₂, _∙_}
 use Prim.Native.Nat.{ℕ, _<_, _^_}
 use mathlib.Core.List.{List, [], _∷_}
@@ -28,23 +28,23 @@ use denote.Steps.{only, nothing, owned}
 use denote.Triple.Statement.{Triple}
 use denote.Triple.Spec.{tripleOf}
 use denote.Triple.Table.{entered, cited}
-use Rattle.machine.specs.Cell.{moved}
-use Rattle.machine.specs.declared.head.Head.{Head}
-use Rattle.machine.proofs.Walks.{Walk, Walked, begins, asks, ends, meets}
-use Rattle.machine.proofs.Heads.{WordAt, head-tells, head-typed, On, By}
-use Rattle.machine.proofs.head.Head.Laws as T′
-use Rattle.machine.proofs.head.on as on
-use Rattle.machine.proofs.head.on.Symbol as on-def
-use Rattle.machine.proofs.head.on.Symbol.{name as #on}
-use Rattle.machine.proofs.head.on.Met as on-thm
-use Rattle.machine.proofs.head.by as moves
-use Rattle.machine.proofs.head.by.Symbol as by-def
-use Rattle.machine.proofs.head.by.Symbol.{name as #by}
-use Rattle.machine.proofs.head.by.Met as by-thm
-use Rattle.machine.proofs.head.goes.Key.{name as #goes}
-use Rattle.machine.proofs.head.goes as goes
-use Rattle.machine.proofs.head.goes.Statement as stated
-use Rattle.machine.proofs.head.goes.Code as code
+use Rattle.cells.specs.Cell.{moved}
+use Rattle.cells.specs.declared.head.Head.{Head}
+use Rattle.cells.proofs.Walks.{Walk, Walked, begins, asks, ends, meets}
+use Rattle.cells.proofs.Heads.{WordAt, head-tells, head-typed, On, By}
+use Rattle.cells.proofs.head.Head.Laws as T′
+use Rattle.cells.proofs.head.on as on
+use Rattle.cells.proofs.head.on.Symbol as on-def
+use Rattle.cells.proofs.head.on.Symbol.{name as #on}
+use Rattle.cells.proofs.head.on.Met as on-thm
+use Rattle.cells.proofs.head.by as moves
+use Rattle.cells.proofs.head.by.Symbol as by-def
+use Rattle.cells.proofs.head.by.Symbol.{name as #by}
+use Rattle.cells.proofs.head.by.Met as by-thm
+use Rattle.cells.proofs.head.goes.Key.{name as #goes}
+use Rattle.cells.proofs.head.goes as goes
+use Rattle.cells.proofs.head.goes.Statement as stated
+use Rattle.cells.proofs.head.goes.Code as code
 
 module _ {M : Type 1} (𝓤 : URA M) (H : Heap 𝓤) (A : Atoms 𝓤) (W : Given 𝓤 H A) (mem : Memory → SProp 𝓤) (run : Routine → Fun 𝓤) (κ : Lft) (q : Share) (s : RefT (List ℕ)) (c n : ℕ) where
   abbrev v : Val
@@ -91,6 +91,6 @@ goes-spec 𝓤 H 𝓜 𝓖 𝓡 =
     (meets 𝓤 H (𝓖 .A) W goes.ended (goes.clauses 𝓤 H (𝓖 .A) (𝓜 .mem) (𝓡 .run)) code.function 𝓣 ((λ κs x f. refl), ((λ κs x f. refl), ((λ κs x f. refl), tt)))
     (λ κs. (slice-vals, (uint-vals w8, (uint-vals w64, tt)))) (λ κs. (shr-slice-tells (named 0) (κs .0) u8, (uint-tells w8, (uint-tells w64, tt))))
     (λ κs qs bounds a g are. walk 𝓤 H (𝓖 .A) W (𝓜 .mem) (𝓡 .run) (κs .0) (qs .0) (a .0) (a .1 .0) (a .1 .1 .0) (𝓣 .C) (𝓣 .Λ) (fmOf 𝓤 H (W .laws) 𝓣)
-    (cited 𝓤 H (On 𝓤 H (𝓖 .A) (𝓜 .mem) (𝓡 .run)) 𝓜 𝓡 code.env #on on-def.routine code.calls-machine·head·on (on-thm.met 𝓤 H 𝓜 𝓖 𝓡))
-    (cited 𝓤 H (By 𝓤 H (𝓖 .A) (𝓜 .mem) (𝓡 .run)) 𝓜 𝓡 code.env #by by-def.routine code.calls-machine·head·by (by-thm.met 𝓤 H 𝓜 𝓖 𝓡))
+    (cited 𝓤 H (On 𝓤 H (𝓖 .A) (𝓜 .mem) (𝓡 .run)) 𝓜 𝓡 code.env #on on-def.routine code.calls-cells·head·on (on-thm.met 𝓤 H 𝓜 𝓖 𝓡))
+    (cited 𝓤 H (By 𝓤 H (𝓖 .A) (𝓜 .mem) (𝓡 .run)) 𝓜 𝓡 code.env #by by-def.routine code.calls-cells·head·by (by-thm.met 𝓤 H 𝓜 𝓖 𝓡))
     (are .0) (are .1 .0 .1) (are .1 .1 .0 .1)))

@@ -1,10 +1,10 @@
--- `machine::looked` meets its contract: each answer is the symbol of its case.
+-- `cells::looked` meets its contract: each answer is the symbol of its case.
 use borrow.Author.Needs.{needs}
 use mathlib.Core.Path.{sym}
-use Rattle.machine.specs.Code.{symbolIs}
-use Rattle.machine.proofs.Cells.{on-left, on-letter, on-right}
-use Rattle.machine.proofs.looked.Statement.{statement}
-use Rattle.machine.proofs.looked.Tie as tie
+use Rattle.cells.specs.Code.{symbolIs}
+use Rattle.cells.proofs.Cells.{on-left, on-letter, on-right}
+use Rattle.cells.proofs.looked.Statement.{statement}
+use Rattle.cells.proofs.looked.Tie as tie
 
 returns : tie.Need-returns
 unfolding symbolIs

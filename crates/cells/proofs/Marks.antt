@@ -26,13 +26,13 @@ use denote.Exit.{yes}
 use denote.Triple.Statement.{Triple}
 use denote.Triple.Clauses.{Clauses, Ended, atExit, closing}
 use denote.Triple.Spec.{Meets}
-use Rattle.machine.specs.Cell.{moved}
-use Rattle.machine.specs.declared.head.Head.{Head}
-use Rattle.machine.proofs.Walks.{Walk, Walked, begins, asks, ends, meets}
-use Rattle.machine.proofs.Heads.{HeadAt, head-tells, head-typed, By}
-use Rattle.machine.proofs.head.Head.Laws as T′
-use Rattle.machine.proofs.head.by as moves
-use Rattle.machine.proofs.head.by.Symbol.{name as #by}
+use Rattle.cells.specs.Cell.{moved}
+use Rattle.cells.specs.declared.head.Head.{Head}
+use Rattle.cells.proofs.Walks.{Walk, Walked, begins, asks, ends, meets}
+use Rattle.cells.proofs.Heads.{HeadAt, head-tells, head-typed, By}
+use Rattle.cells.proofs.head.Head.Laws as T′
+use Rattle.cells.proofs.head.by as moves
+use Rattle.cells.proofs.head.by.Symbol.{name as #by}
 
 -- the MIR of a call of `by` with the head passed and this code
 abbrev pub marks : Operand → Fn

@@ -24,11 +24,11 @@ use denote.Struct.Laws as LL
 use denote.Struct.Rest.{own-open, own-shut}
 use denote.Triple.Statement.{Contract}
 use denote.Triple.Spec.{tripleOf}
-use Rattle.machine.specs.declared.head.Head.{Head}
-use Rattle.machine.proofs.head.Head as T
-use Rattle.machine.proofs.head.Head.Laws as T′
-use Rattle.machine.proofs.head.on as on
-use Rattle.machine.proofs.head.by as moves
+use Rattle.cells.specs.declared.head.Head.{Head}
+use Rattle.cells.proofs.head.Head as T
+use Rattle.cells.proofs.head.Head.Laws as T′
+use Rattle.cells.proofs.head.on as on
+use Rattle.cells.proofs.head.by as moves
 
 -- the types of a head and of its word, at the one lifetime of a signature
 abbrev pub HeadAt : Lfts 1 → RattleType

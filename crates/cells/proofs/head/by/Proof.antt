@@ -1,4 +1,4 @@
--- `machine::head::by` meets its contract: a walk of its MIR, by hand. The head is taken apart, `moved` is called on its parts, and a head is made of its word and the cell that `moved` gives. All that the proof knows of `moved` is that it meets its contract.
+-- `cells::head::by` meets its contract: a walk of its MIR, by hand. The head is taken apart, `moved` is called on its parts, and a head is made of its word and the cell that `moved` gives. All that the proof knows of `moved` is that it meets its contract.
 -- A word is Copy: what it owns goes to `moved` and into the result.
 use mathlib.Core.Path.{_≡_, refl, ap}
 use Prim.Native.Nat.{ℕ, _<_, _^_}
@@ -28,19 +28,19 @@ use denote.Steps.{only}
 use denote.Triple.Statement.{Contract, Triple}
 use denote.Triple.Spec.{tripleOf}
 use denote.Triple.Table.{entered, cited}
-use Rattle.machine.specs.Cell as Cell
-use Rattle.machine.specs.declared.head.Head.{Head}
-use Rattle.machine.proofs.Walks.{Walk, Walked, begins, asks, ends, meets}
-use Rattle.machine.proofs.Heads.{HeadAt, WordAt, wordOf, head-tells, head-typed, Whole, Parts, apart, together}
-use Rattle.machine.proofs.head.Head.Laws as T′
-use Rattle.machine.proofs.moved as moved
-use Rattle.machine.proofs.moved.Symbol as moved-def
-use Rattle.machine.proofs.moved.Symbol.{name as #moved}
-use Rattle.machine.proofs.moved.Met as moved-thm
-use Rattle.machine.proofs.head.by.Key.{name as #by}
-use Rattle.machine.proofs.head.by as moves
-use Rattle.machine.proofs.head.by.Statement as stated
-use Rattle.machine.proofs.head.by.Code as code
+use Rattle.cells.specs.Cell as Cell
+use Rattle.cells.specs.declared.head.Head.{Head}
+use Rattle.cells.proofs.Walks.{Walk, Walked, begins, asks, ends, meets}
+use Rattle.cells.proofs.Heads.{HeadAt, WordAt, wordOf, head-tells, head-typed, Whole, Parts, apart, together}
+use Rattle.cells.proofs.head.Head.Laws as T′
+use Rattle.cells.proofs.moved as moved
+use Rattle.cells.proofs.moved.Symbol as moved-def
+use Rattle.cells.proofs.moved.Symbol.{name as #moved}
+use Rattle.cells.proofs.moved.Met as moved-thm
+use Rattle.cells.proofs.head.by.Key.{name as #by}
+use Rattle.cells.proofs.head.by as moves
+use Rattle.cells.proofs.head.by.Statement as stated
+use Rattle.cells.proofs.head.by.Code as code
 
 -- the contract that the proof cites
 abbrev Moved : {M : Type 1} (𝓤 : URA M) (H : Heap 𝓤) (A : Atoms 𝓤) (mem : Memory → SProp 𝓤) (run : Routine → Fun 𝓤) → Contract 𝓤
@@ -93,5 +93,5 @@ by-spec 𝓤 H 𝓜 𝓖 𝓡 =
     (meets 𝓤 H (𝓖 .A) W moves.ended (moves.clauses 𝓤 H (𝓖 .A) (𝓜 .mem) (𝓡 .run)) code.function 𝓣 ((λ κs x f. refl), ((λ κs x f. refl), tt))
     (λ κs. ((λ d. T′.lowered d ∷ []), (uint-vals w8, tt))) (λ κs. (head-tells κs, (uint-tells w8, tt)))
     (λ κs qs bounds a g are. walk 𝓤 H (𝓖 .A) W (𝓜 .mem) (𝓡 .run) (κs .0) (qs .0) (a .0) (a .1 .0) (𝓣 .C) (𝓣 .Λ) (fmOf 𝓤 H (W .laws) 𝓣)
-    (cited 𝓤 H (Moved 𝓤 H (𝓖 .A) (𝓜 .mem) (𝓡 .run)) 𝓜 𝓡 code.env #moved moved-def.routine code.calls-machine·moved (moved-thm.met 𝓤 H 𝓜 𝓖 𝓡))
+    (cited 𝓤 H (Moved 𝓤 H (𝓖 .A) (𝓜 .mem) (𝓡 .run)) 𝓜 𝓡 code.env #moved moved-def.routine code.calls-cells·moved (moved-thm.met 𝓤 H 𝓜 𝓖 𝓡))
     (are .0) (are .1 .0 .1)))

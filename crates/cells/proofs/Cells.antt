@@ -5,10 +5,10 @@ use mathlib.Core.Path.{_≡_, refl, sym, ap, _∙_}
 use mathlib.Core.List.{List}
 use lib.ListN.{length, getD}
 use borrow.Author.Tests.{lt-ltb, le-ltb, eq-eqb, ne-eqb}
-use Rattle.machine.specs.declared.Symbol as Code
-use Rattle.machine.specs.declared.Symbol.the-variants as Variants
-use Rattle.machine.specs.Code.{symbolIs}
-use Rattle.machine.specs.Cell.{Symbol, leftMark, letter, rightMark, last, symbolOn, moved}
+use Rattle.cells.specs.declared.Symbol as Code
+use Rattle.cells.specs.declared.Symbol.the-variants as Variants
+use Rattle.cells.specs.Code.{symbolIs}
+use Rattle.cells.specs.Cell.{Symbol, leftMark, letter, rightMark, last, symbolOn, moved}
 
 one-less : (n : ℕ) → suc n - 1 ≡ n
 one-less n = omega arith

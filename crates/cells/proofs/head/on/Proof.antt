@@ -1,4 +1,4 @@
--- `machine::head::on` meets its contract: a walk of its MIR, by hand. What a word and a cell own together, a head of them owns.
+-- `cells::head::on` meets its contract: a walk of its MIR, by hand. What a word and a cell own together, a head of them owns.
 use mathlib.Core.Path.{refl}
 use Prim.Native.Nat.{ℕ, _<_, _^_}
 use mathlib.Core.List.{List, [], _∷_}
@@ -24,14 +24,14 @@ use denote.Ref.{RefT}
 use denote.Slice.{sliceVal, slice-vals, shr-slice-tells, shr-slice-lawful}
 use denote.Triple.Spec.{tripleOf}
 use denote.Triple.Table.{entered}
-use Rattle.machine.specs.declared.head.Head.{Head}
-use Rattle.machine.proofs.Walks.{Walk, Walked, begins, ends, meets}
-use Rattle.machine.proofs.Heads.{WordAt, Whole, together}
-use Rattle.machine.proofs.head.Head.Laws as T′
-use Rattle.machine.proofs.head.on.Key.{name as #on}
-use Rattle.machine.proofs.head.on as on
-use Rattle.machine.proofs.head.on.Statement as stated
-use Rattle.machine.proofs.head.on.Code as code
+use Rattle.cells.specs.declared.head.Head.{Head}
+use Rattle.cells.proofs.Walks.{Walk, Walked, begins, ends, meets}
+use Rattle.cells.proofs.Heads.{WordAt, Whole, together}
+use Rattle.cells.proofs.head.Head.Laws as T′
+use Rattle.cells.proofs.head.on.Key.{name as #on}
+use Rattle.cells.proofs.head.on as on
+use Rattle.cells.proofs.head.on.Statement as stated
+use Rattle.cells.proofs.head.on.Code as code
 
 module _ {M : Type 1} (𝓤 : URA M) (H : Heap 𝓤) (A : Atoms 𝓤) (W : Given 𝓤 H A) (mem : Memory → SProp 𝓤) (run : Routine → Fun 𝓤) (κ : Lft) (q : Share) (s : RefT (List ℕ)) (n : ℕ) where
   abbrev v : Val

@@ -3,8 +3,8 @@
 // parameters are plain: a head stands only inside them.
 use crate::Symbol;
 ghost use mathlib.Core.Path.{_≡_};
-ghost use Rattle.machine.specs.Cell.{last, symbolOn, moved};
-ghost use Rattle.machine.specs.Code.{symbolIs};
+ghost use Rattle.cells.specs.Cell.{last, symbolOn, moved};
+ghost use Rattle.cells.specs.Code.{symbolIs};
 
 pub struct Head<'a> {
     pub word: &'a [u8],

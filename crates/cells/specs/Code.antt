@@ -1,7 +1,7 @@
 -- The code's symbols as the definitions' symbols.
-use Rattle.machine.specs.declared.Symbol as Code
-use Rattle.machine.specs.declared.Symbol.the-variants as Variants
-use Rattle.machine.specs.Cell.{Symbol, leftMark, letter, rightMark}
+use Rattle.cells.specs.declared.Symbol as Code
+use Rattle.cells.specs.declared.Symbol.the-variants as Variants
+use Rattle.cells.specs.Cell.{Symbol, leftMark, letter, rightMark}
 
 unfoldable pub symbolIs : Code.Symbol → Symbol
 symbolIs Variants.LeftMark = leftMark

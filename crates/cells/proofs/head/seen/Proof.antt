@@ -1,4 +1,4 @@
--- `machine::head::seen` meets its contract: a walk of its MIR, by hand. The head that `on` makes is held in a local and passed to `symbol`. All that the proof knows of the two is that each meets its contract.
+-- `cells::head::seen` meets its contract: a walk of its MIR, by hand. The head that `on` makes is held in a local and passed to `symbol`. All that the proof knows of the two is that each meets its contract.
 use mathlib.Core.Path.{_≡_, refl, ap₂, _∙_}
 use Prim.Native.Nat.{ℕ, _<_, _^_}
 use mathlib.Core.List.{List, [], _∷_}
@@ -27,26 +27,26 @@ use denote.Enum.Laws as EL
 use denote.Triple.Statement.{Contract, Triple}
 use denote.Triple.Spec.{tripleOf}
 use denote.Triple.Table.{entered, cited}
-use Rattle.machine.specs.Cell.{symbolOn}
-use Rattle.machine.specs.Code.{symbolIs}
-use Rattle.machine.specs.declared.Symbol.{Symbol}
-use Rattle.machine.specs.declared.head.Head.{Head}
-use Rattle.machine.proofs.Walks.{Walk, Walked, begins, asks, ends, meets}
-use Rattle.machine.proofs.Heads.{WordAt, head-typed, On}
-use Rattle.machine.proofs.Symbol as S
-use Rattle.machine.proofs.Symbol.Laws as S′
-use Rattle.machine.proofs.head.on as on
-use Rattle.machine.proofs.head.on.Symbol as on-def
-use Rattle.machine.proofs.head.on.Symbol.{name as #on}
-use Rattle.machine.proofs.head.on.Met as on-thm
-use Rattle.machine.proofs.head.symbol as symbol
-use Rattle.machine.proofs.head.symbol.Symbol as symbol-def
-use Rattle.machine.proofs.head.symbol.Symbol.{name as #symbol}
-use Rattle.machine.proofs.head.symbol.Met as symbol-thm
-use Rattle.machine.proofs.head.seen.Key.{name as #seen}
-use Rattle.machine.proofs.head.seen as seen
-use Rattle.machine.proofs.head.seen.Statement as stated
-use Rattle.machine.proofs.head.seen.Code as code
+use Rattle.cells.specs.Cell.{symbolOn}
+use Rattle.cells.specs.Code.{symbolIs}
+use Rattle.cells.specs.declared.Symbol.{Symbol}
+use Rattle.cells.specs.declared.head.Head.{Head}
+use Rattle.cells.proofs.Walks.{Walk, Walked, begins, asks, ends, meets}
+use Rattle.cells.proofs.Heads.{WordAt, head-typed, On}
+use Rattle.cells.proofs.Symbol as S
+use Rattle.cells.proofs.Symbol.Laws as S′
+use Rattle.cells.proofs.head.on as on
+use Rattle.cells.proofs.head.on.Symbol as on-def
+use Rattle.cells.proofs.head.on.Symbol.{name as #on}
+use Rattle.cells.proofs.head.on.Met as on-thm
+use Rattle.cells.proofs.head.symbol as symbol
+use Rattle.cells.proofs.head.symbol.Symbol as symbol-def
+use Rattle.cells.proofs.head.symbol.Symbol.{name as #symbol}
+use Rattle.cells.proofs.head.symbol.Met as symbol-thm
+use Rattle.cells.proofs.head.seen.Key.{name as #seen}
+use Rattle.cells.proofs.head.seen as seen
+use Rattle.cells.proofs.head.seen.Statement as stated
+use Rattle.cells.proofs.head.seen.Code as code
 
 -- the contract that the proof cites beside `on`'s
 abbrev SymbolOf : {M : Type 1} (𝓤 : URA M) (H : Heap 𝓤) (A : Atoms 𝓤) (mem : Memory → SProp 𝓤) (run : Routine → Fun 𝓤) → Contract 𝓤
@@ -90,6 +90,6 @@ seen-spec 𝓤 H 𝓜 𝓖 𝓡 =
     (meets 𝓤 H (𝓖 .A) W seen.ended (seen.clauses 𝓤 H (𝓖 .A) (𝓜 .mem) (𝓡 .run)) code.function 𝓣 ((λ κs x f. refl), ((λ κs x f. refl), tt))
     (λ κs. (slice-vals, (uint-vals w64, tt))) (λ κs. (shr-slice-tells (named 0) (κs .0) u8, (uint-tells w64, tt)))
     (λ κs qs bounds a g are. walk 𝓤 H (𝓖 .A) W (𝓜 .mem) (𝓡 .run) (κs .0) (qs .0) (a .0) (a .1 .0) (𝓣 .C) (𝓣 .Λ) (fmOf 𝓤 H (W .laws) 𝓣)
-    (cited 𝓤 H (On 𝓤 H (𝓖 .A) (𝓜 .mem) (𝓡 .run)) 𝓜 𝓡 code.env #on on-def.routine code.calls-machine·head·on (on-thm.met 𝓤 H 𝓜 𝓖 𝓡))
-    (cited 𝓤 H (SymbolOf 𝓤 H (𝓖 .A) (𝓜 .mem) (𝓡 .run)) 𝓜 𝓡 code.env #symbol symbol-def.routine code.calls-machine·head·symbol (symbol-thm.met 𝓤 H 𝓜 𝓖 𝓡))
+    (cited 𝓤 H (On 𝓤 H (𝓖 .A) (𝓜 .mem) (𝓡 .run)) 𝓜 𝓡 code.env #on on-def.routine code.calls-cells·head·on (on-thm.met 𝓤 H 𝓜 𝓖 𝓡))
+    (cited 𝓤 H (SymbolOf 𝓤 H (𝓖 .A) (𝓜 .mem) (𝓡 .run)) 𝓜 𝓡 code.env #symbol symbol-def.routine code.calls-cells·head·symbol (symbol-thm.met 𝓤 H 𝓜 𝓖 𝓡))
     (are .0) (are .1 .0 .1)))
