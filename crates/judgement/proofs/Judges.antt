@@ -1,5 +1,5 @@
 -- Judging has one result: the number and the marks are settled by the image, the word, the limit and the marks before.
-use Prim.Native.Nat.{ℕ, _/_, _≤_, _<_}
+use Prim.Native.Nat.{ℕ, _/_, _%_, _≤_, _<_}
 use native.Mathlib.Nat.{le-refl, add-le-add, mul-le-mul}
 use native.Mathlib.Omega.{arith}
 use mathlib.Core.Path.{_≡_, sym, ap, ap₂, _∙_, subst}
@@ -115,7 +115,7 @@ pub no-at-every-height
 no-at-every-height {word = word} a is M =
     subst (λ (t : Table). ¬ Accepts t word M) (table-once (a .judgeable .isImage) is) (no-everywhere (a .verdict .0) (a .verdict .1) M)
 
--- the count of what is judged is below a million, so the number tells the verdict
+-- the count of what is judged is below a million
 count-small
     : {image word : List ℕ} {limit : ℕ} {before after : List ℕ} {v : Verdict} {count : ℕ} → Judged image word limit before after v count → count < 1000000
 count-small a =
@@ -125,6 +125,13 @@ count-small a =
       count-at-most (j .isImage .inRange) (a .count),
       mul-le-mul (mul-le-mul (j .isImage .inRange .fewStates) (add-le-add (j .short) (le-refl 2))) (add-le-add (j .low) (le-refl 1)),
     )
+
+-- so the last six digits of the answer's number are the count, and the verdict stands before them
+pub number-tells
+    : {image word : List ℕ} {limit : ℕ} {before after : List ℕ} {v : Verdict} {count : ℕ} → Judged image word limit before after v count
+    → (answerNumber (judged v count) / 1000000 ≡ verdictNumber v) × (answerNumber (judged v count) % 1000000 ≡ count)
+unfolding answerNumber
+number-tells a = let small = count-small a in (omega arith, omega arith)
 
 -- the answer whose number begins with 2 is a no
 answer-no
