@@ -16,9 +16,9 @@ use Rattle.io.specs.Digits.{Fewest}
 use Rattle.bits.specs.Byte.{spelling}
 use Rattle.table.specs.Image.{encode}
 use Rattle.construction.specs.Construction.{construct}
-use Rattle.compiler.specs.Compile.{Compiled}
+use Rattle.construction.specs.Compile.{Compiled}
 use Rattle.compiler.specs.Line.{digits, decimal, line}
-use Rattle.compiler.specs.declared.Answer.the-variants as Answer
+use Rattle.construction.specs.declared.Answer.the-variants as Answer
 use Rattle.compiler.specs.Writing.{over}
 use Rattle.compiler.proofs.Writing.{over-behind}
 use Rattle.compile.specs.Standing.{Stands, Adds}

@@ -5,7 +5,7 @@ ghost use lib.ListN.{length};
 ghost use Rattle.compiler.specs.Line.{decimal};
 ghost use Rattle.compiler.specs.Line.{line as Line·line};
 ghost use Rattle.compile.specs.Standing.{Stands, Adds};
-use compiler::Answer;
+use construction::Answer;
 
 // These bytes behind those that stand already.
 fn add(out: &mut [u8], at: usize, bytes: &[u8]) -> usize

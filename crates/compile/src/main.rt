@@ -3,7 +3,7 @@
 // error, and then no line is printed.
 mod line;
 
-use compiler::Answer;
+use construction::Answer;
 use libc::STDERR_FILENO;
 use libc::STDIN_FILENO;
 use libc::STDOUT_FILENO;

@@ -32,9 +32,10 @@ use Rattle.rule.specs.Grammar.{
   IsProgram,
   program,
 }
+use Rattle.rule.proofs.Letters.{some-letter}
 use Rattle.rule.proofs.Within.{length-letterBytes, program-within}
 use Rattle.construction.specs.Construction.{programPart, construct}
-use Rattle.compiler.specs.Compile.{imageRoom}
+use Rattle.construction.specs.Compile.{imageRoom}
 use Rattle.compiler.specs.Writing.{acceptBytes, written, rowPlace, Holds, over, Heads}
 use Rattle.compiler.specs.Seeing as Seen
 use Rattle.compiler.specs.Seeing.{Here, SeenAs, Sees, Passes}
@@ -105,19 +106,6 @@ pub record ListsSoFar (text before out : List ℕ) (from place count : ℕ) : Ty
 -- the letter that is seen, and what is seen behind it
 byte-seen : {text : List ℕ} {from p e b q : ℕ} {us : List Placed} {x : Word} {g : Sign} {byte : ℕ} → SeenAs text from ((letter b at q) ∷ us) x g byte p e → byte ≡ b
 byte-seen (Seen.aLetter t h) = refl
-
--- there is a letter at least
-some-letter : {ts us : Ts} {l : List Letter} → IsLetters ts l us → 1 ≤ length l
-some-letter one = omega arith
-some-letter (more m) = omega arith
-
-settings-letter : {ts us : Ts} {l : List Letter} {d : Bool} → IsSettings ts l d us → 1 ≤ length l
-settings-letter (alphabetFirst (alphabet m) d) = some-letter m
-settings-letter (decrementFirst d (alphabet m)) = some-letter m
-
--- so a program has one
-pub program-letter : {ts : Ts} {p : Program} → IsProgram ts p → 1 ≤ length (p .alphabet)
-program-letter (program settings b) = settings-letter settings
 
 -- there is room for one that is to come
 pub so-far-room : {text before out : List ℕ} {from place count : ℕ} {ts us : Ts} {l : List Letter}

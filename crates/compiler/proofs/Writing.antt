@@ -4,7 +4,7 @@ use native.Mathlib.Omega.{arith}
 use mathlib.Core.Path.{_≡_, refl, sym, _∙_, ap}
 use mathlib.Core.Bool.{Bool, true, false}
 use mathlib.Core.List.{List, [], _∷_, _++_, append-assoc, append-nil}
-use lib.ListN.{length, getD, take, drop, replicate, length-append, length-drop, length-replicate, length-take, drop-of-length-le}
+use lib.ListN.{length, getD, take, drop, replicate, length-append, length-drop, length-take, drop-of-length-le}
 use lib.Seq.{take-at, drop-at, drop-drop, drop-append-add, length-take-le, take-all}
 use lib.Dec.{eqb}
 use borrow.Author.Tests.{eq-eqb, ne-eqb}
@@ -15,9 +15,9 @@ use Rattle.table.specs.Table.{Row}
 use Rattle.table.specs.Image.{twoBytes, field, rowBytes, rowsBytes, flag, edition, encode}
 use Rattle.table.proofs.Image.{length-rows, length-field}
 use Rattle.construction.specs.Construction.{withBits, indexIn}
-use Rattle.compiler.specs.Compile.{imageRoom}
+use Rattle.construction.specs.Compile.{imageRoom}
 use Rattle.compiler.specs.Writing.{Sheet, front, acceptBytes, written, rowPlace, Holds, over, Filled, Room, Writes, Marks, Heads, Counts}
-use Rattle.construction.proofs.SetBit.{new, length-withBits}
+use Rattle.construction.proofs.SetBit.{new, length-accept}
 
 regroup : (a b c d : List ℕ) → (a ++ (b ++ c)) ++ d ≡ a ++ (b ++ (c ++ d))
 regroup a b c d = simp append-assoc
@@ -34,9 +34,6 @@ over-behind xs new old n long =
     ∙ drop-append-add xs (drop n old) (length new)
     ∙ drop-drop (length new) n old)
     ∙ sym (append-assoc xs new (drop (n + length new) old))
-
-pub length-accept : (accepting : List ℕ) → length (acceptBytes accepting) ≡ 16
-length-accept accepting = length-withBits accepting (replicate {A = ℕ} 16 0) ∙ length-replicate {A = ℕ} 16 0
 
 length-front : (h : Sheet) → length (front h) ≡ length (h .alphabet) + 19
 unfolding front twoBytes

@@ -4,8 +4,8 @@ use mathlib.Core.Bool.{true, false}
 use mathlib.Core.List.{List, [], _∷_, _++_}
 use lib.Dec.{ltb}
 use Rattle.bits.specs.Byte.{spelling}
-use Rattle.compiler.specs.declared.Answer.{Answer}
-use Rattle.compiler.specs.declared.Answer.the-variants.{Compiled, Refused}
+use Rattle.construction.specs.declared.Answer.{Answer}
+use Rattle.construction.specs.declared.Answer.the-variants.{Compiled, Refused}
 
 -- the last digits of a number, at most so many and no leading zero, before what follows
 unfoldable pub digits : ℕ → ℕ → List ℕ → List ℕ

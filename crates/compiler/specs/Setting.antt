@@ -11,7 +11,7 @@ use Rattle.rule.specs.Tree.{Letter, Program, letterBytes}
 use Rattle.rule.specs.Grammar.{Ts, IsLetters, IsDecrement, IsSettings}
 use Rattle.rule.specs.Faults.{Reads}
 use Rattle.construction.specs.Construction.{programPart, construct}
-use Rattle.compiler.specs.Compile.{imageRoom}
+use Rattle.construction.specs.Compile.{imageRoom}
 use Rattle.compiler.specs.Writing.{Sheet, over}
 use Rattle.compiler.specs.Seeing.{Here}
 use Rattle.compiler.specs.Emission.{Doing, RestTask}

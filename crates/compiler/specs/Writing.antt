@@ -7,7 +7,7 @@ use lib.ListN.{length, take, drop, replicate}
 use Rattle.table.specs.Table.{Row}
 use Rattle.table.specs.Image.{twoBytes, field, rowsBytes, flag, edition}
 use Rattle.construction.specs.Construction.{withBits, indexIn}
-use Rattle.compiler.specs.Compile.{imageRoom}
+use Rattle.construction.specs.Compile.{imageRoom}
 
 -- what is settled before the first row is written: the buffer as it was, what the header says, and how many rows there will be
 pub record Sheet : Type 0 where

@@ -9,7 +9,8 @@ mod settings;
 mod walk;
 mod write;
 
-ghost use Rattle.compiler.specs.Compile.{Compiles};
+ghost use Rattle.construction.specs.Compile.{Compiles};
+use construction::Answer;
 use reader::Reading;
 
 // Where the emitter stands: how far it has come in the text, the state that the next statement starts at, the next state
@@ -19,19 +20,6 @@ pub struct Place {
     pub state: usize,
     pub next: usize,
     pub row: usize,
-}
-
-// The image's length and the table's states and rows, or a refusal's number and place.
-pub enum Answer {
-    Compiled {
-        bytes: usize,
-        states: usize,
-        rows: usize,
-    },
-    Refused {
-        number: usize,
-        place: usize,
-    },
 }
 
 // Nothing is written before the text is read to its end, so a refusal leaves every byte as it was.

@@ -5,7 +5,7 @@ ghost use mathlib.Core.Path.{_≡_};
 ghost use mathlib.Core.List.{[], _∷_};
 ghost use lib.ListN.{length};
 ghost use Rattle.table.specs.Image.{flag};
-ghost use Rattle.compiler.specs.Compile.{imageRoom};
+ghost use Rattle.construction.specs.Compile.{imageRoom};
 ghost use Rattle.construction.specs.Construction.{testRow, free};
 ghost use Rattle.compiler.specs.Writing.{over, Held, Room, Writes, Marks, Heads, Indexes, Counts};
 

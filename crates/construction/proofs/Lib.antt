@@ -1,4 +1,4 @@
--- Laws of the construction: how many states and rows, which ranges they keep, what rows do, and that table and program agree.
+-- Laws of the construction: how many states and rows, which ranges they keep, what rows do, that table and program agree, and that compiling has one answer.
 pub mod Every
 pub mod Symbols
 pub mod Counts
@@ -17,3 +17,4 @@ pub mod ToTable
 pub mod Sound
 pub mod ToProgram
 pub mod Agree
+pub mod Compiles

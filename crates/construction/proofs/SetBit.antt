@@ -190,3 +190,7 @@ bits-only ss n s one = go (isIn s ss) refl
     go false found =
         let none : bit (withBits (replicate n 0) ss) s ≡ 0 = bits-zero ss n s (λ m. true≢false (sym (mem-isIn s ss m) ∙ found)) in
         absurd (omega arith)
+
+-- the sixteen accept bytes are sixteen, whichever bits are set
+pub length-accept : (accepting : List ℕ) → length (withBits (replicate 16 0) accepting) ≡ 16
+length-accept accepting = length-withBits accepting (replicate {A = ℕ} 16 0) ∙ length-replicate {A = ℕ} 16 0

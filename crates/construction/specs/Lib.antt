@@ -1,3 +1,4 @@
--- What table a program has, and what it is that the two agree.
+-- What table a program has, what it is that the two agree, and what compiling promises.
 pub mod Construction
 pub mod Agreement
+pub mod Compile

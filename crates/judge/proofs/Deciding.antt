@@ -1,5 +1,5 @@
 -- The judge's answer from its parts: a refusal with the marks as they were, or a verdict with its count and marks.
-use Prim.Native.Nat.{ℕ, _≤_}
+use Prim.Native.Nat.{ℕ}
 use native.Mathlib.Omega.{arith}
 use mathlib.Core.Path.{_≡_}
 use mathlib.Core.List.{List}

@@ -1,6 +1,6 @@
 // What the office's own tools link: the C entry of compile. `include/valaiyoth.h` declares it.
-ghost use Rattle.compiler.specs.Compile.{CompilesTo};
-use compiler::Answer;
+ghost use Rattle.construction.specs.Compile.{CompilesTo};
+use construction::Answer;
 
 #[no_mangle]
 pub extern "C" fn valaiyoth_compile(text: &[u8], image: &mut [u8]) -> u64

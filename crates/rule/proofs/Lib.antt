@@ -16,3 +16,4 @@ pub mod Reasons
 pub mod Digits
 pub mod Invert
 pub mod Within
+pub mod Letters

@@ -27,8 +27,8 @@ use Rattle.rule.proofs.Steps.{begin, eat}
 use Rattle.rule.proofs.Complete.{built}
 use Rattle.rule.proofs.Outcomes.{built-program, refused-fault}
 use Rattle.construction.specs.Construction.{construct}
-use Rattle.compiler.specs.declared.Answer.the-variants as Answer
-use Rattle.compiler.specs.Compile.{Compilable, reasons, imageRoom}
+use Rattle.construction.specs.declared.Answer.the-variants as Answer
+use Rattle.construction.specs.Compile.{Compilable, reasons, imageRoom}
 use Rattle.compiler.specs.Line.{line}
 use Rattle.samples.specs.Sample as Sample
 use Rattle.samples.specs.Sample.{Finding, prints, has, image, row, judged, Sample, compiles, refuses, onlyRow, FindingHolds, AllHold, Holds, EachHolds}

@@ -13,8 +13,8 @@ use Rattle.machine.specs.Run.{Reach}
 use Rattle.judgement.specs.Verdict.{Verdict, IsVerdict}
 use Rattle.rule.specs.Tree.{Program}
 use Rattle.construction.specs.Construction.{construct}
-use Rattle.compiler.specs.declared.Answer.the-variants as Answer
-use Rattle.compiler.specs.Compile.{Compilable, reasons, imageRoom}
+use Rattle.construction.specs.declared.Answer.the-variants as Answer
+use Rattle.construction.specs.Compile.{Compilable, reasons, imageRoom}
 use Rattle.compiler.specs.Line.{line}
 
 -- what is found of a text that compiles

@@ -1,20 +1,20 @@
 -- A sign is known by how it is written, and the longest sign at the front of some bytes is that of the first two, or of the first.
 use Prim.Native.Nat.{ℕ, zero, suc, _≤_, zero-le, suc-le-suc}
 use native.Mathlib.Omega.{arith}
-use mathlib.Core.Path.{_≡_, refl, sym, ap₂, _∙_}
+use mathlib.Core.Path.{_≡_, refl, sym}
 use mathlib.Core.Bool.{Bool, true, false, not, _||_}
 use mathlib.Core.Logic.{⊎-elim}
 use mathlib.Core.List.{List, [], _∷_, List·Memᴰ, List·Memᴰ·head, List·Memᴰ·tail}
 use lib.ListN.{length, take, getD}
 use lib.Seq.{length-take-le}
-use lib.Dec.{T, eqb, leb, eqb→eq, eqb-refl, leb→le}
-use Rattle.bits.proofs.Tests.{sameList, same-list, every, every-at}
+use lib.Dec.{T, eqb, leb, leb→le}
+use Rattle.bits.proofs.Tests.{sameList, same-list, every-at}
 use Rattle.text.specs.Token.{signs}
 use Rattle.text.specs.First.{written}
 use Rattle.text.specs.declared.Sign.{Sign}
 use Rattle.text.specs.declared.Sign.the-variants as Sign
 use Rattle.text.proofs.Scan.{longestOf}
-use Rattle.text.proofs.Runs.{T-true, T-either, longestOf-bound, longestOf-found, longestOf-fits}
+use Rattle.text.proofs.Runs.{T-either, longestOf-bound, longestOf-found, longestOf-fits}
 
 -- tests of lists of one byte, and of two
 abbrev pub ofOne : (ℕ → Bool) → List ℕ → Bool

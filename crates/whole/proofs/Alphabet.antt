@@ -13,7 +13,7 @@ use Rattle.table.specs.Image.{encode}
 use Rattle.rule.specs.Tree.{Letter, Program, letterBytes}
 use Rattle.rule.specs.Grammar.{Ts, IsLetters, one, more, IsAlphabet, alphabet, isTrue, isFalse, IsSettings, alphabetFirst, decrementFirst, IsProgram, program}
 use Rattle.construction.specs.Construction.{construct}
-use Rattle.compiler.specs.Compile.{Compilable}
+use Rattle.construction.specs.Compile.{Compilable}
 use Rattle.construction.proofs.WellFormed.{constructed-in-range}
 
 -- a token that is a letter of the language

@@ -20,7 +20,7 @@ use Rattle.judgement.proofs.Judges.{no-reason, reasons-numbered}
 use Rattle.rule.specs.Tree.{Program, letterBytes}
 use Rattle.construction.specs.Construction.{construct}
 use Rattle.construction.specs.Agreement.{Agree}
-use Rattle.compiler.specs.Compile.{Compiled}
+use Rattle.construction.specs.Compile.{Compiled}
 use Rattle.whole.specs.Grant.{Grants, Deserves}
 use Rattle.whole.proofs.Alphabet.{compiled-image}
 

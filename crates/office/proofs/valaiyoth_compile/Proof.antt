@@ -3,8 +3,8 @@ use Prim.Native.Nat.{_≤_}
 use native.Mathlib.Omega.{arith}
 use mathlib.Core.Path.{refl}
 use borrow.Author.Needs.{needs}
-use Rattle.compiler.specs.Compile.{answerNumber}
-use Rattle.compiler.proofs.Compiling.{refused-bounds}
+use Rattle.construction.specs.Compile.{answerNumber}
+use Rattle.construction.proofs.Compiles.{refused-bounds}
 use Rattle.office.proofs.valaiyoth_compile.Statement.{statement}
 use Rattle.office.proofs.valaiyoth_compile.Tie as tie
 

@@ -1,19 +1,16 @@
 -- What compiling promises, for every text and every image buffer.
 use Prim.Native.Nat.{ℕ, _≤_, _<_}
 use mathlib.Core.Path.{_≡_}
-use mathlib.Core.Logic.{_↔_}
-use mathlib.Core.List.{List, [], _∷_, _++_, List·Memᴰ}
-use lib.ListN.{length, getD, drop}
+use mathlib.Core.List.{List, [], _∷_, _++_}
+use lib.ListN.{length, drop}
 use Rattle.table.specs.Image.{encode}
 use Rattle.table.specs.Refusal.{Reason, because, atZero, First, refusal}
-use Rattle.machine.specs.Run.{Accepts}
 use Rattle.rule.specs.Tree.{Program}
 use Rattle.rule.specs.Faults.{FirstFault, Reads, TooMany}
-use Rattle.rule.specs.Meaning.{ProgramAccepts}
 use Rattle.construction.specs.Construction.{construct}
 use Rattle.construction.specs.Agreement.{Agree}
-use Rattle.compiler.specs.declared.Answer.{Answer}
-use Rattle.compiler.specs.declared.Answer.the-variants as Answer
+use Rattle.construction.specs.declared.Answer.{Answer}
+use Rattle.construction.specs.declared.Answer.the-variants as Answer
 
 -- the bytes of image buffer that document 01 asks for, enough for the longest image
 abbrev pub imageRoom : ℕ
