@@ -15,19 +15,33 @@ rust() {
   rustc -O --edition 2021 -D warnings -o "$output" "$@" "$source"
 }
 
+# alone COMMAND..: what tests that run beside each other share is built by one of them at a time
+alone() {
+  (
+    flock 9
+    "$@"
+  ) 9>"$root/target/outside/lock"
+}
+
+independent() { # LIBRARY
+  if [ ! -f "$1" ] || [ -n "$(find tests/independent -name '*.rs' -newer "$1")" ]; then
+    rust tests/independent/lib.rs "$1" --crate-type rlib --crate-name independent
+  fi
+}
+
 # program SOURCE OUTPUT WORDS..: a Rust program over the independent implementation, which is built if it has changed
 program() {
   local source=$1 output=$2 lib=$root/target/outside/libindependent.rlib
   shift 2
-  if [ ! -f "$lib" ] || [ -n "$(find tests/independent -name '*.rs' -newer "$lib")" ]; then
-    rust tests/independent/lib.rs "$lib" --crate-type rlib --crate-name independent
-  fi
+  alone independent "$lib"
   rust "$source" "$output" --extern "independent=$lib" "$@"
 }
 
 # archive NAME: proves a crate, makes its archive and prints the archive's path. An archive that is newer than every crate's
 # files and folders is taken as it is: the tests of one run share it.
-archive() {
+archive() { alone build_archive "$1"; }
+
+build_archive() {
   local log=$out/staticlib-$1.log lib=$root/target/staticlib/lib$1.a
   if [ ! -f "$lib" ] || [ -n "$(find crates crates.txt -newer "$lib" -print -quit)" ]; then
     if ! rt staticlib "$1" >"$log" 2>&1; then
@@ -40,7 +54,9 @@ archive() {
 
 # proved NAME: the path of a proved program, which is proved and linked first if a file has changed since. PROGRAMS=FOLDER takes
 # the programs there instead, to try a test itself.
-proved() {
+proved() { alone build_program "$1"; }
+
+build_program() {
   local log=$out/check-$1.log bin=$root/target/bin/$1
   if [ -n "${PROGRAMS:-}" ]; then
     bin=$PROGRAMS/$1
