@@ -3,8 +3,6 @@ use Prim.Native.Nat.{ℕ, _≤_}
 use native.Mathlib.Omega.{arith}
 use mathlib.Core.Path.{_≡_, refl, sym, ap, _∙_}
 use mathlib.Core.List.{List}
-use Rattle.table.specs.WellFormed.{WellFormed}
-use Rattle.table.specs.Refusal.{refusal}
 use Rattle.checker.specs.Check.{Checked, wellFormed, malformed, checkedNumber, CheckedRight, Checks}
 
 -- an image has one right answer
@@ -27,14 +25,3 @@ some-number malformed = omega arith
 -- a check never gives 0
 pub checks-never-zero : {image : List ℕ} {r : ℕ} → Checks image r → 1 ≤ r
 checks-never-zero a = rw (a .number) (some-number (a .answer))
-
--- what an answer with the number 1 says, and any other
-one-says : (image : List ℕ) (a : Checked) → CheckedRight image a → checkedNumber a ≡ 1 → WellFormed image
-unfolding checkedNumber
-one-says image wellFormed right e = right
-one-says image malformed right e = absurd (omega arith)
-
-other-says : (image : List ℕ) (a : Checked) → CheckedRight image a → ¬ (checkedNumber a ≡ 1) → (¬ WellFormed image) × (checkedNumber a ≡ refusal 21 0)
-unfolding checkedNumber
-other-says image wellFormed right other = absurd (other refl)
-other-says image malformed right other = (right, refl)

@@ -46,14 +46,6 @@ unfolding rowsFrom
 row-number image i (suc n) (List·Memᴰ·head e) = (i, omega arith, e)
 row-number image i (suc n) (List·Memᴰ·tail m) = let found = row-number image (suc i) n m in (found .0, omega (arith, found .1), found .2)
 
-row-nth : (image : List ℕ) (d : Row) (i n j : ℕ) → j < n → getD (rowsFrom image i n) j d ≡ rowOf image (i + j)
-unfolding rowsFrom
-row-nth image d i zero j low = absurd (omega arith)
-row-nth image d i (suc n) zero low = ap (rowOf image) (sym (add-zero i))
-row-nth image d i (suc n) (suc j) low =
-    let next : suc i + j ≡ i + suc j = omega arith in
-    row-nth image d (suc i) n j (omega arith) ∙ ap (rowOf image) next
-
 -- where the bytes of these rows stand, these are the rows
 pub rows-of-bytes
     : (image : List ℕ) (i : ℕ) (rs : List Row) (rest : List ℕ) → drop (lettersOf image + 38 + i * 8) image ≡ rowsBytes rs ++ rest
