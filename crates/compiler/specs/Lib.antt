@@ -1,6 +1,5 @@
 -- What compiling promises, and what the emitter's functions promise each other.
 pub mod Compile
-pub mod Line
 pub mod Seeing
 pub mod Operators
 pub mod Writing

@@ -2,9 +2,9 @@
 use mathlib.Core.Path.{refl}
 use borrow.Author.Needs.{needs}
 use Rattle.compiler.proofs.Writing.{put-over}
-use Rattle.compile.proofs.Lines.{adds-over}
-use Rattle.compile.proofs.line.add.Statement.{statement}
-use Rattle.compile.proofs.line.add.Tie as tie
+use Rattle.line.proofs.Standing.{adds-over}
+use Rattle.line.proofs.parts.add.Statement.{statement}
+use Rattle.line.proofs.parts.add.Tie as tie
 
 sub-copy : tie.Need-sub-copy
 sub-copy c = search needs

@@ -1,7 +1,7 @@
 -- Assumes nothing.
 use borrow.Author.Needs.{needs}
-use Rattle.compile.proofs.line.line.Statement.{statement}
-use Rattle.compile.proofs.line.line.Tie as tie
+use Rattle.line.proofs.compile.compile_line.Statement.{statement}
+use Rattle.line.proofs.compile.compile_line.Tie as tie
 
 enum-known-answer : tie.Need-enum-known-answer
 enum-known-answer c = search needs
@@ -27,8 +27,8 @@ same-length-2 c = search needs
 returns-2 : tie.Need-returns-2
 returns-2 c = rw (c .before .before .before .before .before .answer2 .given .1) (c .before .before .refused .ensures)
 
-pub line-spec : {M : Type 1} → statement M
-line-spec =
+pub compile_line-spec : {M : Type 1} → statement M
+compile_line-spec =
     tie.close
     (tie.spec
     enum-known-answer
