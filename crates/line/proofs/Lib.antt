@@ -2,3 +2,4 @@
 pub mod Standing
 pub mod Decimal
 pub mod Lines
+pub mod Judged

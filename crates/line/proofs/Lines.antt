@@ -1,14 +1,19 @@
 -- The lines, part by part.
 use Prim.Native.Nat.{ℕ, _+_, _≤_}
 use native.Mathlib.Omega.{arith}
-use mathlib.Core.Path.{_≡_}
+use mathlib.Core.Path.{_≡_, ap}
+use mathlib.Core.Logic.{_≢_}
 use mathlib.Core.List.{List, [], _∷_, _++_, append-assoc}
 use lib.ListN.{length-append}
+use borrow.Author.Tests.{ne-eqb}
 use Rattle.bits.specs.Byte.{spelling}
+use Rattle.judgement.specs.Verdict.{Verdict, Yes, No, LimitMet, verdictNumber}
+use Rattle.judgement.specs.Judge.{judged, refused}
 use Rattle.compiler.specs.declared.Answer.the-variants as Answer
 use Rattle.line.specs.Standing.{Adds}
 use Rattle.line.specs.Decimal.{decimal}
 use Rattle.line.specs.CompileLine.{compileLine}
+use Rattle.line.specs.VerdictLine.{meaning, verdictLine, answerWith}
 use Rattle.line.proofs.Decimal.{decimal-short}
 
 -- with the byte behind it a number takes 21 bytes at most
@@ -26,3 +31,25 @@ pub refused-line : (number place : ℕ)
     → spelling "no " ++ ((decimal number ++ (32 ∷ [])) ++ (decimal place ++ (10 ∷ []))) ≡ compileLine (Answer.Refused number place)
 unfolding compileLine
 refused-line number place = simp append-assoc
+
+pub refusal-line : (number place : ℕ)
+    → spelling "refused " ++ ((decimal number ++ (32 ∷ [])) ++ ((decimal place ++ (32 ∷ [])) ++ (meaning number ++ (10 ∷ []))))
+    ≡ verdictLine (refused number place)
+unfolding verdictLine
+refusal-line number place = simp append-assoc
+
+-- what every other number means
+pub meaning-last : (n : ℕ) → n ≢ 21 → n ≢ 22 → n ≢ 23 → n ≢ 24 → meaning n ≡ spelling "the mark buffer has another length"
+unfolding meaning
+meaning-last n a b c d = simp (ne-eqb n 21 a, ne-eqb n 22 b, ne-eqb n 23 c, ne-eqb n 24 d)
+
+-- the answer with a verdict's number, and that with no verdict's number
+pub answer-judged : (v : Verdict) (n count : ℕ) → n ≡ verdictNumber v → answerWith n count ≡ judged v count
+unfolding answerWith verdictNumber
+answer-judged Yes n count is = ap (λ (k : ℕ). answerWith k count) is
+answer-judged No n count is = ap (λ (k : ℕ). answerWith k count) is
+answer-judged LimitMet n count is = ap (λ (k : ℕ). answerWith k count) is
+
+pub answer-refused : (n p : ℕ) → n ≢ 1 → n ≢ 2 → n ≢ 3 → answerWith n p ≡ refused n p
+unfolding answerWith
+answer-refused n p a b c = simp (ne-eqb n 1 a, ne-eqb n 2 b, ne-eqb n 3 c)

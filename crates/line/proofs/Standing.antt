@@ -57,5 +57,8 @@ adds-both {after = after} {to = to} {xs = xs} {ys = ys} a b =
     }
 
 -- in other words
+pub stands-as : {old out : List ℕ} {end : ℕ} {xs ys : List ℕ} → Stands old out end xs → xs ≡ ys → Stands old out end ys
+stands-as {old} {out} {end} s same = subst (Stands old out end) same s
+
 pub adds-as : {before after : List ℕ} {from to : ℕ} {xs ys : List ℕ} → Adds before after from to xs → xs ≡ ys → Adds before after from to ys
 adds-as {before} {after} {from} {to} a same = subst (Adds before after from to) same a

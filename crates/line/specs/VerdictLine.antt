@@ -1,6 +1,5 @@
 -- The verdict program's line: `yes`, `no` or `limit met`, and the count; or `refused`, number, place, and what the number means.
 use Prim.Native.Nat.{ℕ, _/_, _%_}
-use Prim.Native.String.{String}
 use mathlib.Core.Bool.{cond}
 use mathlib.Core.List.{List, _++_}
 use lib.Dec.{eqb}
@@ -29,10 +28,14 @@ verdictLine (refused number place) =
     spelling "refused "
     ++ (decimal number ++ (spelling " " ++ (decimal place ++ (spelling " " ++ (meaning number ++ spelling "\n")))))
 
--- the answer that a number stands for: a verdict or a refusal by what stands before the last six digits, and those six
-unfoldable pub answerOf : ℕ → Answer
-answerOf n =
-    cond (eqb (n / 1000000) 1) (judged Yes (n % 1000000))
-    (cond (eqb (n / 1000000) 2) (judged No (n % 1000000))
-    (cond (eqb (n / 1000000) 3) (judged LimitMet (n % 1000000))
-    (refused (n / 1000000) (n % 1000000))))
+-- the answer with this number, of a verdict or a refusal, and this count or place
+unfoldable pub answerWith : ℕ → ℕ → Answer
+answerWith number value =
+    cond (eqb number 1) (judged Yes value)
+    (cond (eqb number 2) (judged No value)
+    (cond (eqb number 3) (judged LimitMet value)
+    (refused number value)))
+
+-- the answer that a result of judging stands for: its last six digits are the count or the place
+abbrev pub answerOf : ℕ → Answer
+answerOf result = answerWith (result / 1000000) (result % 1000000)

@@ -15,27 +15,19 @@ enum-known-answer-2 c = search needs
 refused-requires : tie.Need-refused-requires
 refused-requires c κs = search needs
 
-same-length : tie.Need-same-length
-same-length c = search needs
-
 returns : tie.Need-returns
-returns c = rw (c .before .before .before .before .before .answer .given .1) (c .before .before .compiled .ensures)
-
-same-length-2 : tie.Need-same-length-2
-same-length-2 c = search needs
+returns c = rw (c .before .before .before .answer .given .1) (c .compiled .ensures)
 
 returns-2 : tie.Need-returns-2
-returns-2 c = rw (c .before .before .before .before .before .answer2 .given .1) (c .before .before .refused .ensures)
+returns-2 c = rw (c .before .before .before .answer2 .given .1) (c .refused .ensures)
 
-pub compile_line-spec : {M : Type 1} → statement M
-compile_line-spec =
+pub compile-line-spec : {M : Type 1} → statement M
+compile-line-spec =
     tie.close
     (tie.spec
     enum-known-answer
     compiled-requires
     enum-known-answer-2
     refused-requires
-    same-length
     returns
-    same-length-2
     returns-2)
