@@ -3,9 +3,9 @@ ghost use Prim.Native.Nat.{_≤_};
 ghost use lib.ListN.{length};
 ghost use Rattle.line.specs.CompileLine.{compileLine};
 ghost use Rattle.line.specs.Standing.{Stands};
-use compiler::Answer;
 use crate::parts::add;
 use crate::parts::number;
+use compiler::Answer;
 
 fn compiled(out: &mut [u8], bytes: usize, states: usize, rows: usize) -> usize
     requires { ⌜ 66 ≤ length (now out) ⌝ }

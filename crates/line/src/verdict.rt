@@ -23,7 +23,11 @@ fn meaning(out: &mut [u8], at: usize, refusal: usize) -> usize
         return add(out, at, b"the word has more than 62 letters\n");
     }
     if refusal == 23 {
-        return add(out, at, b"the word's letter at this place is not in the alphabet\n");
+        return add(
+            out,
+            at,
+            b"the word's letter at this place is not in the alphabet\n",
+        );
     }
     if refusal == 24 {
         return add(out, at, b"the limit is above 31\n");

@@ -25,7 +25,7 @@ same-length : tie.Need-same-length
 same-length c = search needs
 
 returns : tie.Need-returns
-returns c = 
+returns c =
     adds-stands
     (adds-as
     (adds-both (c .before .before .before .before .before .before .before .before .before .before .before .before .before .before .add .ensures) (adds-both (c .before .before .before .before .before .before .before .before .before .before .number .ensures) (adds-both (c .before .before .before .before .before .before .number2 .ensures) (c .before .before .meaning .ensures))))

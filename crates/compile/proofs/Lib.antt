@@ -1,0 +1,2 @@
+-- Laws of the image that is written.
+pub mod Image
