@@ -20,25 +20,26 @@ use Rattle.line.proofs.Decimal.{decimal-short}
 pub number-short : {before after : List ℕ} {from to : ℕ} (n behind : ℕ) → Adds before after from to (decimal n ++ (behind ∷ [])) → to ≤ from + 21
 number-short n behind a = omega (arith, a .ends, length-append (decimal n) (behind ∷ []), decimal-short n)
 
--- the line, number by number
+-- the compile program's line
 pub compiled-line : (bytes states rows : ℕ)
     → spelling "ok " ++ ((decimal states ++ (32 ∷ [])) ++ ((decimal rows ++ (32 ∷ [])) ++ (decimal bytes ++ (10 ∷ []))))
     ≡ compileLine (Answer.Compiled bytes states rows)
 unfolding compileLine
 compiled-line bytes states rows = simp append-assoc
 
-pub refused-line : (number place : ℕ)
+pub compile-refused-line : (number place : ℕ)
     → spelling "no " ++ ((decimal number ++ (32 ∷ [])) ++ (decimal place ++ (10 ∷ []))) ≡ compileLine (Answer.Refused number place)
 unfolding compileLine
-refused-line number place = simp append-assoc
+compile-refused-line number place = simp append-assoc
 
-pub refusal-line : (number place : ℕ)
+-- the verdict program's line of a refusal
+pub verdict-refused-line : (number place : ℕ)
     → spelling "refused " ++ ((decimal number ++ (32 ∷ [])) ++ ((decimal place ++ (32 ∷ [])) ++ (meaning number ++ (10 ∷ []))))
     ≡ verdictLine (refused number place)
 unfolding verdictLine
-refusal-line number place = simp append-assoc
+verdict-refused-line number place = simp append-assoc
 
--- what every other number means
+-- what a number means that is none of the first four
 pub meaning-last : (n : ℕ) → n ≢ 21 → n ≢ 22 → n ≢ 23 → n ≢ 24 → meaning n ≡ spelling "the mark buffer has another length"
 unfolding meaning
 meaning-last n a b c d = simp (ne-eqb n 21 a, ne-eqb n 22 b, ne-eqb n 23 c, ne-eqb n 24 d)

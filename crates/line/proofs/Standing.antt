@@ -1,4 +1,4 @@
--- Bytes that stand in a buffer are a number of its bytes, nothing else stands there, and bytes are added one behind the other.
+-- Bytes that stand in a buffer are a number of its bytes and stand there in one way, and bytes are added one behind the other.
 use Prim.Native.Nat.{ℕ, _+_}
 use native.Mathlib.Omega.{arith}
 use mathlib.Core.Path.{_≡_, refl, sym, _∙_, ap, subst}
@@ -10,8 +10,10 @@ use Rattle.compiler.specs.Writing.{over}
 use Rattle.compiler.proofs.Writing.{over-behind}
 use Rattle.line.specs.Standing.{Stands, Adds}
 
--- what stands in a buffer, and how long it is, is settled by the buffer as it was and by the bytes: each line is written in one way
-pub stands-once : {old out out′ : List ℕ} {end end′ : ℕ} {bytes : List ℕ} → Stands old out end bytes → Stands old out′ end′ bytes → (end ≡ end′) × (out ≡ out′)
+-- no second result fits the promise of a function that writes a line: end and buffer are settled by the buffer as it was and the line
+pub stands-once
+    : {old out out′ : List ℕ} {end end′ : ℕ} {bytes : List ℕ} → Stands old out end bytes → Stands old out′ end′ bytes
+    → (end ≡ end′) × (out ≡ out′)
 stands-once {old} {bytes = bytes} a b =
     let same = a .ends ∙ sym (b .ends) in
     (same, a .is ∙ ap (λ (n : ℕ). bytes ++ drop n old) same ∙ sym (b .is))

@@ -13,7 +13,7 @@ verdictWord Yes = spelling "yes"
 verdictWord No = spelling "no"
 verdictWord LimitMet = spelling "limit met"
 
--- what a refusal's number means. The last is that of 25.
+-- what a refusal's number means. The last is for 25, and for a number that no refusal has.
 unfoldable pub meaning : ℕ → List ℕ
 meaning number =
     cond (eqb number 21) (spelling "the file is not the image of a table")

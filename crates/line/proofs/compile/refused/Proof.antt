@@ -2,7 +2,7 @@
 use native.Mathlib.Omega.{arith}
 use borrow.Author.Needs.{needs}
 use Rattle.line.proofs.Standing.{adds-both, adds-as, adds-stands}
-use Rattle.line.proofs.Lines.{number-short, refused-line}
+use Rattle.line.proofs.Lines.{number-short, compile-refused-line}
 use Rattle.line.proofs.compile.refused.Statement.{statement}
 use Rattle.line.proofs.compile.refused.Tie as tie
 
@@ -33,7 +33,7 @@ returns c =
     adds-stands
     (adds-as
     (adds-both (c .before .before .before .before .before .before .before .before .before .before .add .ensures) (adds-both (c .before .before .before .before .before .before .number .ensures) (c .before .before .number2 .ensures)))
-    (refused-line _ _))
+    (compile-refused-line _ _))
 
 pub refused-spec : {M : Type 1} → statement M
 refused-spec =

@@ -2,7 +2,7 @@
 use native.Mathlib.Omega.{arith}
 use borrow.Author.Needs.{needs}
 use Rattle.line.proofs.Standing.{adds-both, adds-as, adds-stands}
-use Rattle.line.proofs.Lines.{number-short, refusal-line}
+use Rattle.line.proofs.Lines.{number-short, verdict-refused-line}
 use Rattle.line.proofs.verdict.refused.Statement.{statement}
 use Rattle.line.proofs.verdict.refused.Tie as tie
 
@@ -16,10 +16,26 @@ number-requires : tie.Need-number-requires
 number-requires c κs = search needs
 
 number-requires-2 : tie.Need-number-requires-2
-number-requires-2 c κs = omega (arith, c .before .before .before .before .before .before .before .add .ensures .ends, c .before .before .before .before .before .before .before .add .kept .0, number-short _ _ (c .before .before .before .number .ensures), c .before .before .before .number .kept .0)
+number-requires-2 c κs =
+    omega (
+      arith,
+      c .before .before .before .before .before .before .before .add .ensures .ends,
+      c .before .before .before .before .before .before .before .add .kept .0,
+      number-short _ _ (c .before .before .before .number .ensures),
+      c .before .before .before .number .kept .0,
+    )
 
 meaning-requires : tie.Need-meaning-requires
-meaning-requires c κs = omega (arith, c .before .before .before .before .before .before .before .before .before .before .before .add .ensures .ends, c .before .before .before .before .before .before .before .before .before .before .before .add .kept .0, number-short _ _ (c .before .before .before .before .before .before .before .number .ensures), c .before .before .before .before .before .before .before .number .kept .0, number-short _ _ (c .before .before .before .number2 .ensures), c .before .before .before .number2 .kept .0)
+meaning-requires c κs =
+    omega (
+      arith,
+      c .before .before .before .before .before .before .before .before .before .before .before .add .ensures .ends,
+      c .before .before .before .before .before .before .before .before .before .before .before .add .kept .0,
+      number-short _ _ (c .before .before .before .before .before .before .before .number .ensures),
+      c .before .before .before .before .before .before .before .number .kept .0,
+      number-short _ _ (c .before .before .before .number2 .ensures),
+      c .before .before .before .number2 .kept .0,
+    )
 
 same-length : tie.Need-same-length
 same-length c = search needs
@@ -28,8 +44,9 @@ returns : tie.Need-returns
 returns c =
     adds-stands
     (adds-as
-    (adds-both (c .before .before .before .before .before .before .before .before .before .before .before .before .before .before .add .ensures) (adds-both (c .before .before .before .before .before .before .before .before .before .before .number .ensures) (adds-both (c .before .before .before .before .before .before .number2 .ensures) (c .before .before .meaning .ensures))))
-    (refusal-line _ _))
+    (adds-both (c .before .before .before .before .before .before .before .before .before .before .before .before .before .before .add .ensures)
+    (adds-both (c .before .before .before .before .before .before .before .before .before .before .number .ensures) (adds-both (c .before .before .before .before .before .before .number2 .ensures) (c .before .before .meaning .ensures))))
+    (verdict-refused-line _ _))
 
 pub refused-spec : {M : Type 1} → statement M
 refused-spec =
