@@ -6,3 +6,4 @@ pub mod Parts
 pub mod Counting
 pub mod Size
 pub mod Tests
+pub mod Over

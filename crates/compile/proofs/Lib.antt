@@ -1,2 +1,2 @@
--- Laws of the line that is printed.
-pub mod Lines
+-- Laws of the image that is written.
+pub mod Image

@@ -1,8 +1,6 @@
 // compile [IMAGE]: compiles the rule on standard input and prints one line, `ok STATES ROWS BYTES` or `no NUMBER PLACE`. With
 // a name it also writes the image to the file of that name, if the rule compiles. What keeps it from that is said on standard
 // error, and then no line is printed.
-mod line;
-
 use construction::Answer;
 use libc::STDERR_FILENO;
 use libc::STDIN_FILENO;
@@ -31,7 +29,7 @@ fn saved(image: &[u8]) -> bool {
 
 fn print(answer: Answer) {
     let mut text = [0u8; 66];
-    let n = line::line(answer, &mut text);
+    let n = line::compile_line(answer, &mut text);
     io::write_all(STDOUT_FILENO, &text[..n]);
 }
 

@@ -36,7 +36,8 @@ use Rattle.rule.proofs.Letters.{some-letter}
 use Rattle.rule.proofs.Within.{length-letterBytes, program-within}
 use Rattle.construction.specs.Construction.{programPart, construct}
 use Rattle.construction.specs.Compile.{imageRoom}
-use Rattle.compiler.specs.Writing.{acceptBytes, written, rowPlace, Holds, over, Heads}
+use Rattle.bits.specs.Over.{over}
+use Rattle.compiler.specs.Writing.{acceptBytes, written, rowPlace, Holds, Heads}
 use Rattle.compiler.specs.Seeing as Seen
 use Rattle.compiler.specs.Seeing.{Here, SeenAs, Sees, Passes}
 use Rattle.compiler.specs.Emission.{Emits, RestTask, theRest}

@@ -4,19 +4,21 @@ use native.Mathlib.Omega.{arith}
 use mathlib.Core.Path.{_≡_, refl, sym, _∙_, ap}
 use mathlib.Core.Bool.{Bool, true, false}
 use mathlib.Core.List.{List, [], _∷_, _++_, append-assoc, append-nil}
-use lib.ListN.{length, getD, take, drop, replicate, length-append, length-drop, length-take, drop-of-length-le}
-use lib.Seq.{take-at, drop-at, drop-drop, drop-append-add, length-take-le, take-all}
+use lib.ListN.{length, getD, take, drop, replicate, length-append, length-drop, length-take}
+use lib.Seq.{take-at, drop-at, length-take-le}
 use lib.Dec.{eqb}
 use borrow.Author.Tests.{eq-eqb, ne-eqb}
 use native.Mathlib.Decide.{ℕ-discrete}
 use Rattle.bytes.specs.Bytes.{slice, indexOf, indexAfter}
 use Rattle.bits.specs.Bit.{withBit}
+use Rattle.bits.proofs.Over.{over-behind}
 use Rattle.table.specs.Table.{Row}
 use Rattle.table.specs.Image.{twoBytes, field, rowBytes, rowsBytes, flag, edition, encode}
 use Rattle.table.proofs.Image.{length-rows, length-field}
 use Rattle.construction.specs.Construction.{withBits, indexIn}
 use Rattle.construction.specs.Compile.{imageRoom}
-use Rattle.compiler.specs.Writing.{Sheet, front, acceptBytes, written, rowPlace, Holds, over, Filled, Room, Writes, Marks, Heads, Counts}
+use Rattle.bits.specs.Over.{over}
+use Rattle.compiler.specs.Writing.{Sheet, front, acceptBytes, written, rowPlace, Holds, Filled, Room, Writes, Marks, Heads, Counts}
 use Rattle.construction.proofs.SetBit.{new, length-accept}
 
 regroup : (a b c d : List ℕ) → (a ++ (b ++ c)) ++ d ≡ a ++ (b ++ (c ++ d))
@@ -24,16 +26,6 @@ regroup a b c d = simp append-assoc
 
 in-order : (a b c d e r : List ℕ) → (a ++ (b ++ (c ++ (d ++ e)))) ++ r ≡ a ++ (b ++ (c ++ (d ++ (e ++ r))))
 in-order a b c d e r = simp append-assoc
-
--- what a prefix and old bytes become where new bytes are put behind the prefix
-pub over-behind : (xs new old : List ℕ) (n : ℕ) → length xs ≡ n → over (xs ++ drop n old) n new ≡ (xs ++ new) ++ drop (n + length new) old
-over-behind xs new old n long =
-    ap (λ (l : List ℕ). l ++ (new ++ drop (n + length new) (xs ++ drop n old))) (take-at xs (drop n old) n long)
-    ∙ ap (λ (l : List ℕ). xs ++ (new ++ l))
-    (ap (λ (m : ℕ). drop (m + length new) (xs ++ drop n old)) (sym long)
-    ∙ drop-append-add xs (drop n old) (length new)
-    ∙ drop-drop (length new) n old)
-    ∙ sym (append-assoc xs new (drop (n + length new) old))
 
 length-front : (h : Sheet) → length (front h) ≡ length (h .alphabet) + 19
 unfolding front twoBytes
@@ -229,24 +221,6 @@ marks-bit before after part letters from many state count start sixteen part-is 
           room = holds .room;
           most = holds .most;
         }
-
--- bytes put from a place on, through the part of the buffer that starts there
-pub put-over : (out bytes last : List ℕ) (at many : ℕ)
-    → at + length bytes ≤ length out
-    → many ≡ length out - at
-    → last ≡ take (length bytes) bytes ++ drop (length bytes) (take many (drop at out))
-    → take at out ++ (last ++ drop many (drop at out)) ≡ over out at bytes
-put-over out bytes last at many room part-is last-is =
-    let whole : length (drop at out) ≤ many = omega (arith, length-drop at out) in
-    let last-whole : last ≡ bytes ++ drop (at + length bytes) out =
-    last-is
-    ∙ ap (λ (l : List ℕ). l ++ drop (length bytes) (take many (drop at out))) (take-all (length bytes) bytes (omega arith))
-    ∙ ap (λ (l : List ℕ). bytes ++ drop (length bytes) l) (take-all many (drop at out) whole)
-    ∙ ap (λ (l : List ℕ). bytes ++ l) (drop-drop (length bytes) at out)
-    in
-    ap (λ (l : List ℕ). take at out ++ (last ++ l)) (drop-of-length-le (drop at out) whole)
-    ∙ ap (λ (l : List ℕ). take at out ++ l) (append-nil last)
-    ∙ ap (λ (l : List ℕ). take at out ++ l) last-whole
 
 -- the bytes of the header before and behind the letters
 abbrev pub before-letters : ℕ → List ℕ

@@ -1,5 +1,4 @@
 -- What the emitter's functions promise each other. What compiling promises is in crate construction.
-pub mod Line
 pub mod Seeing
 pub mod Operators
 pub mod Writing

@@ -12,7 +12,8 @@ use Rattle.rule.specs.Grammar.{Ts, IsLetters, IsDecrement, IsSettings}
 use Rattle.rule.specs.Faults.{Reads}
 use Rattle.construction.specs.Construction.{programPart, construct}
 use Rattle.construction.specs.Compile.{imageRoom}
-use Rattle.compiler.specs.Writing.{Sheet, over}
+use Rattle.bits.specs.Over.{over}
+use Rattle.compiler.specs.Writing.{Sheet}
 use Rattle.compiler.specs.Seeing.{Here}
 use Rattle.compiler.specs.Emission.{Doing, RestTask}
 use Rattle.compiler.specs.declared.Place.{Place}

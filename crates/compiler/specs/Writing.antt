@@ -3,7 +3,8 @@ use Prim.Native.Nat.{ℕ, _+_, _*_, _≤_}
 use mathlib.Core.Path.{_≡_}
 use mathlib.Core.Bool.{Bool}
 use mathlib.Core.List.{List, [], _∷_, _++_}
-use lib.ListN.{length, take, drop, replicate}
+use lib.ListN.{length, drop, replicate}
+use Rattle.bits.specs.Over.{over}
 use Rattle.table.specs.Table.{Row}
 use Rattle.table.specs.Image.{twoBytes, field, rowsBytes, flag, edition}
 use Rattle.construction.specs.Construction.{withBits, indexIn}
@@ -51,10 +52,6 @@ pub record Held (out : List ℕ) : Type 0 where
   pub accepting : List ℕ
   pub rows : List Row
   pub holds : Holds sheet accepting rows out
-
--- a list with other elements from a place on
-abbrev pub over : List ℕ → ℕ → List ℕ → List ℕ
-over l at new = take at l ++ (new ++ drop (at + length new) l)
 
 -- it holds so much, and the next row is to be written here
 pub record Filled (h : Sheet) (accepting : List ℕ) (rows : List Row) (out : List ℕ) (place : ℕ) : Type 0 where

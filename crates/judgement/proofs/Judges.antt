@@ -2,12 +2,15 @@
 use Prim.Native.Nat.{ℕ, _/_, _%_, _≤_, _<_}
 use native.Mathlib.Nat.{le-refl, add-le-add, mul-le-mul}
 use native.Mathlib.Omega.{arith}
-use mathlib.Core.Path.{_≡_, sym, ap, ap₂, _∙_, subst}
+use mathlib.Core.Path.{_≡_, refl, sym, ap, ap₂, _∙_, subst}
+use mathlib.Core.Logic.{inl, inr}
 use mathlib.Core.List.{List, List·Memᴰ}
+use lib.ListN.{length, drop}
 use Rattle.bits.specs.Size.{Size}
 use Rattle.bits.proofs.Size.{size-once}
 use Rattle.table.specs.Table.{Table}
 use Rattle.table.specs.WellFormed.{IsImage}
+use Rattle.table.specs.Refusal.{First}
 use Rattle.table.proofs.Image.{table-once}
 use Rattle.table.proofs.Refusal.{Single, Gives, Each, single-because, single-at-zero, first-once, first-has}
 use Rattle.machine.specs.Run.{Reach, Accepts}
@@ -116,7 +119,7 @@ no-at-every-height {word = word} a is M =
     subst (λ (t : Table). ¬ Accepts t word M) (table-once (a .judgeable .isImage) is) (no-everywhere (a .verdict .0) (a .verdict .1) M)
 
 -- the count of what is judged is below a million
-count-small
+pub count-small
     : {image word : List ℕ} {limit : ℕ} {before after : List ℕ} {v : Verdict} {count : ℕ} → Judged image word limit before after v count → count < 1000000
 count-small a =
     let j = a .judgeable in
@@ -150,3 +153,28 @@ pub says-no
     → {t : Table} → IsImage t image → (M : ℕ) → ¬ Accepts t word M
 says-no {image} {word} {limit} {before} {after} j two =
     no-at-every-height (answer-no image word limit before after (j .answer) (j .right) (rw (← (j .number)) two) .1)
+
+-- a place of a word that is not too long is below a million
+later-places
+    : (image word : List ℕ) (limit : ℕ) (before : List ℕ) → ¬ (62 < length word)
+    → Each (Gives (λ n p. p < 1000000)) (drop 2 (reasons image word limit before))
+later-places image word limit before short =
+    (λ n p r. omega (arith, r .1 .inside), (λ n p r. omega (arith, r .1 .0), (λ n p r. omega (arith, r .1 .0), tt)))
+
+first-place
+    : (image word : List ℕ) (limit : ℕ) (before : List ℕ) (n p : ℕ) → First (reasons image word limit before) n p → p < 1000000
+unfolding First
+first-place image word limit before n p (inl r) = omega (arith, r .1 .0)
+first-place image word limit before n p (inr (well, inl r)) = omega (arith, r .1 .0)
+first-place image word limit before n p (inr (well, inr (short, later))) =
+    first-has (λ n p. p < 1000000) (drop 2 (reasons image word limit before))
+    (later-places image word limit before (λ long. short 22 0 (refl, (refl, long)))) later
+
+-- so the number of a refusal tells its own number and its place
+pub refused-bounds
+    : {image word : List ℕ} {limit : ℕ} {before after : List ℕ} {n p : ℕ} → Refused image word limit before after n p
+    → (21 ≤ n) × (p < 1000000)
+refused-bounds {image} {word} {limit} {before} a = (
+  first-has (λ n p. 21 ≤ n) (reasons image word limit before) (reasons-numbered image word limit before) (a .first),
+  first-place image word limit before _ _ (a .first),
+)

@@ -29,7 +29,7 @@ use Rattle.rule.proofs.Outcomes.{built-program, refused-fault}
 use Rattle.construction.specs.Construction.{construct}
 use Rattle.construction.specs.declared.Answer.the-variants as Answer
 use Rattle.construction.specs.Compile.{Compilable, reasons, imageRoom}
-use Rattle.compiler.specs.Line.{line}
+use Rattle.line.specs.CompileLine.{compileLine}
 use Rattle.samples.specs.Sample as Sample
 use Rattle.samples.specs.Sample.{Finding, prints, has, image, row, judged, Sample, compiles, refuses, onlyRow, FindingHolds, AllHold, Holds, EachHolds}
 use Rattle.samples.proofs.Decide.{_>>=_, found, it, equal, atMost, equalLists, empty}
@@ -88,7 +88,7 @@ pub with-count : (t : Table) (word : List ℕ) (limit count : ℕ) (x : Explored
 with-count t word limit count x e = subst (λ (n : ℕ). Size (Reach t word limit) n) e (size-of t word limit x)
 
 abbrev find : (t : Table) (f : Finding) → Option (FindingHolds t f)
-find t (prints text) = equalLists (line (Answer.Compiled (length (encode t)) (t .states) (length (t .rows)))) (spelling text)
+find t (prints text) = equalLists (compileLine (Answer.Compiled (length (encode t)) (t .states) (length (t .rows)))) (spelling text)
 find t (has states rows) = do
   a ← equal (t .states) states
   b ← equal (length (t .rows)) rows
@@ -147,7 +147,7 @@ prove (compiles text findings) = do
   some (c .0, c .1, hs)
 prove (refuses text n p printed) = do
   r ← refuse (spelling text) n p
-  h ← equalLists (line (Answer.Refused n p)) (spelling printed)
+  h ← equalLists (compileLine (Answer.Refused n p)) (spelling printed)
   some (r, h)
 
 abbrev pub right : List Sample → Bool

@@ -42,11 +42,12 @@ use Rattle.construction.specs.Construction.{
   changeCode,
   moveCode,
 }
-use Rattle.compiler.specs.Line.{line, digits}
+use Rattle.line.specs.Decimal.{digits}
+use Rattle.line.specs.CompileLine.{compileLine}
 use Rattle.samples.specs.Sample.{EachHolds, onlyRow}
 use Rattle.samples.specs.Starred.{starred}
 use Rattle.samples.proofs.Prove.{each}
 
 pub starred-hold : EachHolds starred
-unfolding outcome eat bit withBit encode field twoBytes rowBytes rowsBytes flag symbolOn moved symbolFits counterFits changed rowFits scan letterBytes faults letterFaults isIn valueFrom inForm numberFaults soughtFaults atomFaults conditionFaults plainFaults statementsFaults construct programPart statementsPart withBits andThen armPart loopPart ifPart test walk oneAfterOther oneOrOther atomRows symbolRows without countUp symbolCode indexIn changeCode moveCode line digits onlyRow
+unfolding outcome eat bit withBit encode field twoBytes rowBytes rowsBytes flag symbolOn moved symbolFits counterFits changed rowFits scan letterBytes faults letterFaults isIn valueFrom inForm numberFaults soughtFaults atomFaults conditionFaults plainFaults statementsFaults construct programPart statementsPart withBits andThen armPart loopPart ifPart test walk oneAfterOther oneOrOther atomRows symbolRows without countUp symbolCode indexIn changeCode moveCode compileLine digits onlyRow
 starred-hold = each starred tt

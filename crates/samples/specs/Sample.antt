@@ -15,7 +15,7 @@ use Rattle.rule.specs.Tree.{Program}
 use Rattle.construction.specs.Construction.{construct}
 use Rattle.construction.specs.declared.Answer.the-variants as Answer
 use Rattle.construction.specs.Compile.{Compilable, reasons, imageRoom}
-use Rattle.compiler.specs.Line.{line}
+use Rattle.line.specs.CompileLine.{compileLine}
 
 -- what is found of a text that compiles
 pub data Finding : Type 0 where
@@ -39,7 +39,7 @@ onlyRow t bytes = (r : Row) × (t .rows ≡ r ∷ []) × (rowBytes r ≡ bytes)
 
 abbrev pub FindingHolds : Table → Finding → Type 0
 FindingHolds t (prints text) =
-    line (Answer.Compiled (length (encode t)) (t .states) (length (t .rows))) ≡ spelling text
+    compileLine (Answer.Compiled (length (encode t)) (t .states) (length (t .rows))) ≡ spelling text
 FindingHolds t (has states rows) = (t .states ≡ states) × (length (t .rows) ≡ rows)
 FindingHolds t (image bytes) = encode t ≡ bytes
 FindingHolds t (row bytes) = onlyRow t bytes
@@ -55,7 +55,7 @@ abbrev pub Holds : Sample → Type 0
 Holds (compiles text found) = (p : Program) × Compilable (spelling text) p × AllHold (construct p) found
 Holds (refuses text number place printed) =
     First (reasons (spelling text) (replicate imageRoom 0)) number place
-    × (line (Answer.Refused number place) ≡ spelling printed)
+    × (compileLine (Answer.Refused number place) ≡ spelling printed)
 
 pub data EachHolds : List Sample → Type 0 where
   none : EachHolds []

@@ -5,51 +5,10 @@ ghost use mathlib.Core.Path.{_≡_};
 use libc::STDERR_FILENO;
 use libc::STDOUT_FILENO;
 
-// What a refusal's number means.
-fn reason(number: u64) {
-    if number == 21 {
-        io::write_all(STDOUT_FILENO, b" the file is not the image of a table\n");
-        return;
-    }
-    if number == 22 {
-        io::write_all(STDOUT_FILENO, b" the word has more than 62 letters\n");
-        return;
-    }
-    if number == 23 {
-        io::write_all(
-            STDOUT_FILENO,
-            b" the word's letter at this place is not in the alphabet\n",
-        );
-        return;
-    }
-    if number == 24 {
-        io::write_all(STDOUT_FILENO, b" the limit is above 31\n");
-        return;
-    }
-    io::write_all(STDOUT_FILENO, b" the mark buffer has another length\n");
-}
-
-// Prints a judge's answer: the verdict or refusal is what stands before the last six digits.
 fn print(answer: u64) {
-    let kind = answer / 1000000;
-    let value = answer % 1000000;
-    if kind == 1 {
-        io::write_all(STDOUT_FILENO, b"yes ");
-    } else if kind == 2 {
-        io::write_all(STDOUT_FILENO, b"no ");
-    } else if kind == 3 {
-        io::write_all(STDOUT_FILENO, b"limit met ");
-    } else {
-        io::write_all(STDOUT_FILENO, b"refused ");
-        io::print_decimal(STDOUT_FILENO, kind);
-        io::write_all(STDOUT_FILENO, b" ");
-    }
-    io::print_decimal(STDOUT_FILENO, value);
-    if kind <= 3 {
-        io::write_all(STDOUT_FILENO, b"\n");
-    } else {
-        reason(kind);
-    }
+    let mut text = [0u8; 105];
+    let n = line::verdict_line(answer, &mut text);
+    io::write_all(STDOUT_FILENO, &text[..n]);
 }
 
 // The value of a digit, or 10.

@@ -1,6 +1,6 @@
 -- The image is within its buffer. Assumes nothing.
 use borrow.Author.Needs.{needs}
-use Rattle.compile.proofs.Lines.{compiled-counts}
+use Rattle.compile.proofs.Image.{compiled-counts}
 use Rattle.compile.proofs.compile.Statement.{statement}
 use Rattle.compile.proofs.compile.Tie as tie
 

@@ -1,20 +1,17 @@
 -- The line is within its buffer. Assumes nothing.
 use borrow.Author.Needs.{needs}
-use Rattle.compile.proofs.Lines.{stands-counts}
+use Rattle.line.proofs.Standing.{stands-counts}
 use Rattle.compile.proofs.print.Statement.{statement}
 use Rattle.compile.proofs.print.Tie as tie
 
-slice-aggregate-line : tie.Need-slice-aggregate-line
-slice-aggregate-line c = search needs
-
-line-requires : tie.Need-line-requires
-line-requires c κs = search needs
+compile-line-requires : tie.Need-compile-line-requires
+compile-line-requires c κs = search needs
 
 array-share-prefix-text : tie.Need-array-share-prefix-text
-array-share-prefix-text c = stands-counts (c .before .line .ensures) .0
+array-share-prefix-text c = stands-counts (c .compile-line .ensures) .0
 
 slice-aggregate-write-all : tie.Need-slice-aggregate-write-all
-slice-aggregate-write-all c = stands-counts (c .before .before .line .ensures) .1
+slice-aggregate-write-all c = stands-counts (c .before .compile-line .ensures) .1
 
 write-all-requires : tie.Need-write-all-requires
 write-all-requires c κs = search needs
@@ -26,8 +23,7 @@ pub print-spec : {M : Type 1} → statement M
 print-spec =
     tie.close
     (tie.spec
-    slice-aggregate-line
-    line-requires
+    compile-line-requires
     array-share-prefix-text
     slice-aggregate-write-all
     write-all-requires

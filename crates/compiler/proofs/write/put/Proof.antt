@@ -1,6 +1,6 @@
 use borrow.Author.Needs.{needs}
 use mathlib.Core.Path.{refl}
-use Rattle.compiler.proofs.Writing.{put-over}
+use Rattle.bits.proofs.Over.{put-over}
 use Rattle.compiler.proofs.write.put.Statement.{statement}
 use Rattle.compiler.proofs.write.put.Tie as tie
 

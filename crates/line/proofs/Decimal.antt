@@ -1,75 +1,17 @@
--- Bytes added one behind the other, and a number's digits as the line has them.
+-- A number's digits as a line has them are the fewest digits that hold it, at most 20.
 use Prim.Native.Nat.{ℕ, zero, suc, _+_, _-_, _/_, _%_, _^_, _≤_, _<_}
 use native.Mathlib.Omega.{arith}
-use mathlib.Core.Path.{_≡_, refl, sym, _∙_, ap, subst}
+use mathlib.Core.Path.{_≡_, sym, _∙_, ap, subst}
 use mathlib.Core.Bool.{Bool, true, false, cond}
 use mathlib.Core.List.{List, [], _∷_, _++_, append-assoc, append-nil}
-use lib.ListN.{length, drop, length-append}
+use lib.ListN.{length}
 use lib.Dec.{ltb}
 use native.Mathlib.Nat.{one-le-pow, pow-le-pow-right}
 use native.Mathlib.Decide.{decLt}
 use borrow.Author.Tests.{lt-ltb, le-ltb}
-use Rattle.io.specs.Counts.{Counts}
-use Rattle.io.proofs.Counting.{counts}
 use Rattle.io.specs.Digits as Io
 use Rattle.io.specs.Digits.{Fewest}
-use Rattle.bits.specs.Byte.{spelling}
-use Rattle.table.specs.Image.{encode}
-use Rattle.construction.specs.Construction.{construct}
-use Rattle.construction.specs.Compile.{Compiled}
-use Rattle.compiler.specs.Line.{digits, decimal, line}
-use Rattle.construction.specs.declared.Answer.the-variants as Answer
-use Rattle.compiler.specs.Writing.{over}
-use Rattle.compiler.proofs.Writing.{over-behind}
-use Rattle.compile.specs.Standing.{Stands, Adds}
-
--- as many bytes as stand at the beginning of a buffer are a number of its bytes
-front-counts : {out : List ℕ} {n : ℕ} (xs rest : List ℕ) → out ≡ xs ++ rest → n ≡ length xs → Counts n out
-front-counts {out} xs rest is long =
-    let all : length out ≡ length xs + length rest = ap length is ∙ length-append xs rest in
-    counts _ out (omega arith)
-
-pub stands-counts : {old out bytes : List ℕ} {end : ℕ} → Stands old out end bytes → Counts end out
-stands-counts {old} {out} {bytes} {end} s = front-counts bytes (drop end old) (s .is) (s .ends)
-
-pub compiled-counts : {text before after : List ℕ} {bytes states rows : ℕ} → Compiled text before after bytes states rows → Counts bytes after
-compiled-counts {before = before} {bytes = bytes} a =
-    front-counts (encode (construct (a .program))) (drop bytes before) (a .image) (a .bytesAre)
-
--- bytes that are put behind what stands are added
-pub adds-over : {before after : List ℕ} {from to : ℕ} (bytes : List ℕ) → after ≡ over before from bytes → to ≡ from + length bytes → Adds before after from to bytes
-adds-over {before} {after} {from} {to} bytes put end =
-    record {
-      adds = λ old standing s. record {
-        is =
-            put
-            ∙ ap (λ (l : List ℕ). over l from bytes) (s .is)
-            ∙ over-behind standing bytes old from (sym (s .ends))
-            ∙ ap (λ (n : ℕ). (standing ++ bytes) ++ drop n old) (sym end);
-        ends = omega (arith, s .ends, length-append standing bytes);
-      };
-      ends = end;
-    }
-
--- what is added at the beginning stands there
-pub adds-stands : {before after : List ℕ} {to : ℕ} {bytes : List ℕ} → Adds before after 0 to bytes → Stands before after to bytes
-adds-stands {before} a = a .adds before [] (record { is = refl; ends = refl })
-
--- and then more
-pub adds-both : {before middle after : List ℕ} {from between to : ℕ} {xs ys : List ℕ}
-    → Adds before middle from between xs
-    → Adds middle after between to ys
-    → Adds before after from to (xs ++ ys)
-adds-both {after = after} {to = to} {xs = xs} {ys = ys} a b =
-    record {
-      adds = λ old standing s.
-          subst (Stands old after to) (append-assoc standing xs ys) (b .adds old (standing ++ xs) (a .adds old standing s));
-      ends = omega (arith, a .ends, b .ends, length-append xs ys);
-    }
-
--- in other words
-pub adds-as : {before after : List ℕ} {from to : ℕ} {xs ys : List ℕ} → Adds before after from to xs → xs ≡ ys → Adds before after from to ys
-adds-as {before} {after} {from} {to} a same = subst (Adds before after from to) same a
+use Rattle.line.specs.Decimal.{digits, decimal}
 
 -- the digits of a number: the last one, or one behind those of a tenth
 digits-last : (most n : ℕ) (rest : List ℕ) → n < 10 → digits (suc most) n rest ≡ (n + 48) ∷ rest
@@ -140,21 +82,5 @@ digits-short (suc most) n rest = go (ltb n 10) (digits-short most (n / 10) ((n %
     go true h = omega arith
     go false h = omega arith
 
-decimal-short : (n : ℕ) → length (decimal n) ≤ 20
+pub decimal-short : (n : ℕ) → length (decimal n) ≤ 20
 decimal-short n = digits-short 20 n []
-
--- with the byte behind it a number takes 21 bytes at most
-pub number-short : {before after : List ℕ} {from to : ℕ} (n behind : ℕ) → Adds before after from to (decimal n ++ (behind ∷ [])) → to ≤ from + 21
-number-short n behind a = omega (arith, a .ends, length-append (decimal n) (behind ∷ []), decimal-short n)
-
--- the line, number by number
-pub compiled-line : (bytes states rows : ℕ)
-    → spelling "ok " ++ ((decimal states ++ (32 ∷ [])) ++ ((decimal rows ++ (32 ∷ [])) ++ (decimal bytes ++ (10 ∷ []))))
-    ≡ line (Answer.Compiled bytes states rows)
-unfolding line
-compiled-line bytes states rows = simp append-assoc
-
-pub refused-line : (number place : ℕ)
-    → spelling "no " ++ ((decimal number ++ (32 ∷ [])) ++ (decimal place ++ (10 ∷ []))) ≡ line (Answer.Refused number place)
-unfolding line
-refused-line number place = simp append-assoc

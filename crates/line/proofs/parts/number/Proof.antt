@@ -3,9 +3,10 @@ use Prim.Native.Nat.{_≤_}
 use native.Mathlib.Omega.{arith}
 use mathlib.Core.Path.{_∙_}
 use borrow.Author.Needs.{needs}
-use Rattle.compile.proofs.Lines.{adds-both, adds-as, fewest-short, decimal-is}
-use Rattle.compile.proofs.line.number.Statement.{statement}
-use Rattle.compile.proofs.line.number.Tie as tie
+use Rattle.line.proofs.Standing.{adds-both, adds-as}
+use Rattle.line.proofs.Decimal.{fewest-short, decimal-is}
+use Rattle.line.proofs.parts.number.Statement.{statement}
+use Rattle.line.proofs.parts.number.Tie as tie
 
 decimal-requires : tie.Need-decimal-requires
 decimal-requires c κs = search needs

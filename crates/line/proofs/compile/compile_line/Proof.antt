@@ -1,7 +1,7 @@
 -- Assumes nothing.
 use borrow.Author.Needs.{needs}
-use Rattle.compile.proofs.line.line.Statement.{statement}
-use Rattle.compile.proofs.line.line.Tie as tie
+use Rattle.line.proofs.compile.compile_line.Statement.{statement}
+use Rattle.line.proofs.compile.compile_line.Tie as tie
 
 enum-known-answer : tie.Need-enum-known-answer
 enum-known-answer c = search needs
@@ -15,27 +15,19 @@ enum-known-answer-2 c = search needs
 refused-requires : tie.Need-refused-requires
 refused-requires c κs = search needs
 
-same-length : tie.Need-same-length
-same-length c = search needs
-
 returns : tie.Need-returns
-returns c = rw (c .before .before .before .before .before .answer .given .1) (c .before .before .compiled .ensures)
-
-same-length-2 : tie.Need-same-length-2
-same-length-2 c = search needs
+returns c = rw (c .before .before .before .answer .given .1) (c .compiled .ensures)
 
 returns-2 : tie.Need-returns-2
-returns-2 c = rw (c .before .before .before .before .before .answer2 .given .1) (c .before .before .refused .ensures)
+returns-2 c = rw (c .before .before .before .answer2 .given .1) (c .refused .ensures)
 
-pub line-spec : {M : Type 1} → statement M
-line-spec =
+pub compile-line-spec : {M : Type 1} → statement M
+compile-line-spec =
     tie.close
     (tie.spec
     enum-known-answer
     compiled-requires
     enum-known-answer-2
     refused-requires
-    same-length
     returns
-    same-length-2
     returns-2)

@@ -1,9 +1,10 @@
 -- Assumes nothing.
 use native.Mathlib.Omega.{arith}
 use borrow.Author.Needs.{needs}
-use Rattle.compile.proofs.Lines.{adds-both, adds-as, adds-stands, number-short, refused-line}
-use Rattle.compile.proofs.line.refused.Statement.{statement}
-use Rattle.compile.proofs.line.refused.Tie as tie
+use Rattle.line.proofs.Standing.{adds-both, adds-as, adds-stands}
+use Rattle.line.proofs.Lines.{number-short, compile-refused-line}
+use Rattle.line.proofs.compile.refused.Statement.{statement}
+use Rattle.line.proofs.compile.refused.Tie as tie
 
 slice-aggregate-add : tie.Need-slice-aggregate-add
 slice-aggregate-add c = search needs
@@ -32,7 +33,7 @@ returns c =
     adds-stands
     (adds-as
     (adds-both (c .before .before .before .before .before .before .before .before .before .before .add .ensures) (adds-both (c .before .before .before .before .before .before .number .ensures) (c .before .before .number2 .ensures)))
-    (refused-line _ _))
+    (compile-refused-line _ _))
 
 pub refused-spec : {M : Type 1} → statement M
 refused-spec =

@@ -1,10 +1,10 @@
 -- Assumes nothing.
 use mathlib.Core.Path.{refl}
 use borrow.Author.Needs.{needs}
-use Rattle.compiler.proofs.Writing.{put-over}
-use Rattle.compile.proofs.Lines.{adds-over}
-use Rattle.compile.proofs.line.add.Statement.{statement}
-use Rattle.compile.proofs.line.add.Tie as tie
+use Rattle.bits.proofs.Over.{put-over}
+use Rattle.line.proofs.Standing.{adds-over}
+use Rattle.line.proofs.parts.add.Statement.{statement}
+use Rattle.line.proofs.parts.add.Tie as tie
 
 sub-copy : tie.Need-sub-copy
 sub-copy c = search needs

@@ -1,4 +1,4 @@
--- Bytes that stand at the beginning of a buffer, and bytes that are added behind them. No caller relies on any of it.
+-- Bytes that stand at the beginning of a buffer, and bytes that are added behind them.
 use Prim.Native.Nat.{ℕ, _+_}
 use mathlib.Core.Path.{_≡_}
 use mathlib.Core.List.{List, _++_}
@@ -9,7 +9,7 @@ pub record Stands (old out : List ℕ) (end : ℕ) (bytes : List ℕ) : Type 0 w
   pub is : out ≡ bytes ++ drop end old
   pub ends : end ≡ length bytes
 
--- these come behind whatever stands there up to a place
+-- these come behind whatever stands there up to a place. No caller relies on it.
 pub record Adds (before after : List ℕ) (from to : ℕ) (bytes : List ℕ) : Type 0 where
   pub adds : (old standing : List ℕ) → Stands old before from standing → Stands old after to (standing ++ bytes)
   pub ends : to ≡ from + length bytes

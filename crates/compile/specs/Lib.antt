@@ -1,2 +1,0 @@
--- What the functions that write the line promise each other.
-pub mod Standing
