@@ -2,5 +2,4 @@
 pub mod Bit
 pub mod Byte
 pub mod Size
-pub mod Ones
 pub mod Over

@@ -1,10 +1,7 @@
-// Bits of a slice of bytes, and counts of ones. Bit i is bit i mod 8, the least being 0, of byte i / 8.
+// Bits of a slice of bytes. Bit i is bit i mod 8, the least being 0, of byte i / 8.
 ghost use mathlib.Core.Path.{_≡_};
-ghost use mathlib.Core.Bool.{true};
-ghost use Prim.Native.Nat.{_+_, _≤_, min};
-ghost use lib.ListN.{getD, length, take, replicate};
+ghost use lib.ListN.{getD, length, replicate};
 ghost use Rattle.bits.specs.Bit.{bit, withBit, withoutBit};
-ghost use Rattle.bits.specs.Ones.{Ones, OnesBetween};
 
 // Byte i, or 0 past the end.
 pub fn byte_at(m: &[u8], i: usize) -> u8
@@ -40,58 +37,6 @@ pub fn clear_bit(m: &mut [u8], i: usize)
             m[at] = m[at] - (1u8 << (i % 8));
         }
     }
-}
-
-fn at_most(n: usize, most: usize) -> usize
-    ensures { λ r. ⌜ r ≡ min n most ⌝ }
-{
-    if n < most { n } else { most }
-}
-
-// Whether the bytes from one place up to another are all 0.
-fn blank(m: &[u8], from: usize, to: usize) -> bool
-    requires { ⌜ (from ≤ to) × (to ≤ length (now m)) ⌝ }
-    ensures { λ r. ⌜ (r ≡ true → OnesBetween (now (m .entry)) from to 0) ⌝ }
-{
-    let mut all: u8 = 0;
-    let mut i = from;
-    while i < to {
-        all = all | m[i];
-        i += 1;
-    }
-    all == 0
-}
-
-// How many bits are set in at most 256 bytes, from one place up to another. So few fit 16 bits, in which several are added at once.
-fn ones_between(m: &[u8], from: usize, to: usize) -> u16
-    requires { ⌜ (from ≤ to) × (to ≤ from + 256) × (to ≤ length (now m)) ⌝ }
-    ensures { λ r. ⌜ OnesBetween (now (m .entry)) from to r ⌝ }
-{
-    if blank(m, from, to) {
-        return 0;
-    }
-    let mut sum: u16 = 0;
-    let mut i = from;
-    while i < to {
-        sum += u8::count_ones(m[i]) as u16;
-        i += 1;
-    }
-    sum
-}
-
-// How many bits are set in the first 65,536 bytes.
-pub fn count_ones(m: &[u8]) -> usize
-    ensures { λ r. ⌜ Ones (take 65536 (now (m .entry))) r ⌝ }
-{
-    let end = at_most(m.len(), 65536);
-    let mut sum: usize = 0;
-    let mut i = 0;
-    while i + 256 <= end {
-        let next = i + 256;
-        sum += ones_between(m, i, next) as usize;
-        i = next;
-    }
-    sum + ones_between(m, i, end) as usize
 }
 
 // Every byte becomes 0.

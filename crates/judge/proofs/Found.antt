@@ -9,7 +9,7 @@ use lib.ListN.{length, take, replicate, length-replicate}
 use lib.Seq.{getD-take, length-take-le, take-all}
 use Rattle.bits.specs.Bit.{bit, Bytes}
 use Rattle.bits.specs.Size.{Size}
-use Rattle.bits.specs.Ones.{Ones}
+use Rattle.ones.specs.Ones.{Ones}
 use Rattle.bits.proofs.Change.{bit-inside, bit-zeros}
 use Rattle.bits.proofs.Size.{size-numbered}
 use Rattle.table.specs.Table.{Accepting}

@@ -111,7 +111,7 @@ fn decide(image: &[u8], word: &[u8], limit: usize, marks: &mut [u8]) -> u64
     bits::clear(marks);
     let over = search::search(image, word, limit, marks);
     let yes = accepted(image, marks);
-    let count = bits::count_ones(&marks[..32768]);
+    let count = ones::count_ones(&marks[..32768]);
     verdict_number(yes, over) * 1000000 + count as u64
 }
 

@@ -2,10 +2,10 @@
 use Prim.Native.Nat.{_≤_, _-_}
 use native.Mathlib.Omega.{arith}
 use borrow.Author.Needs.{needs}
-use Rattle.bits.specs.Ones.{OnesBetween}
-use Rattle.bits.proofs.Counting.{ones-none, ones-both, ones-at-most, ones-all}
-use Rattle.bits.proofs.count_ones.Statement.{statement}
-use Rattle.bits.proofs.count_ones.Tie as tie
+use Rattle.ones.specs.Ones.{OnesBetween}
+use Rattle.ones.proofs.Counting.{ones-none, ones-both, ones-at-most, ones-all}
+use Rattle.ones.proofs.count_ones.Statement.{statement}
+use Rattle.ones.proofs.count_ones.Tie as tie
 
 abbrev Inv-loop : tie.InvT-loop
 Inv-loop m end sum₀ i₀ sum i = (i ≤ end) × OnesBetween m 0 i sum

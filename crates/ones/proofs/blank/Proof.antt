@@ -3,10 +3,10 @@ use Prim.Native.Nat.{_≤_, _-_}
 use native.Mathlib.Omega.{arith}
 use mathlib.Core.Path.{_≡_}
 use borrow.Author.Tests.{eqb-true}
-use Rattle.bits.specs.Ones.{OnesBetween}
-use Rattle.bits.proofs.Counting.{ones-none, ones-to, blank-more}
-use Rattle.bits.proofs.blank.Statement.{statement}
-use Rattle.bits.proofs.blank.Tie as tie
+use Rattle.ones.specs.Ones.{OnesBetween}
+use Rattle.ones.proofs.Counting.{ones-none, ones-to, blank-more}
+use Rattle.ones.proofs.blank.Statement.{statement}
+use Rattle.ones.proofs.blank.Tie as tie
 
 abbrev Inv-loop : tie.InvT-loop
 Inv-loop m from to all₀ i₀ all i = (from ≤ i) × (i ≤ to) × (all ≡ 0 → OnesBetween m from i 0)

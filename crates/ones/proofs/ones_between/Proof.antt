@@ -3,10 +3,10 @@ use Prim.Native.Nat.{_≤_, _+_, _-_}
 use native.Mathlib.Omega.{arith}
 use lib.ListN.{getD}
 use lib.Count.{ones}
-use Rattle.bits.specs.Ones.{OnesBetween}
-use Rattle.bits.proofs.Counting.{ones-none, ones-more, ones-at-most, ones-to}
-use Rattle.bits.proofs.ones_between.Statement.{statement}
-use Rattle.bits.proofs.ones_between.Tie as tie
+use Rattle.ones.specs.Ones.{OnesBetween}
+use Rattle.ones.proofs.Counting.{ones-none, ones-more, ones-at-most, ones-to}
+use Rattle.ones.proofs.ones_between.Statement.{statement}
+use Rattle.ones.proofs.ones_between.Tie as tie
 
 abbrev Inv-loop : tie.InvT-loop
 Inv-loop m from to sum₀ i₀ sum i = (from ≤ i) × (i ≤ to) × OnesBetween m from i sum

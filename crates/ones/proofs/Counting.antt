@@ -11,11 +11,11 @@ use lib.Seq.{getD-take}
 use lib.Arith.{lt-one}
 use lib.Bits.{bitOr, or-add-and, and-le-l, and-le-r}
 use lib.Count.{ones, ones-step}
 use Rattle.bits.specs.Bit.{bit}
 use Rattle.bits.specs.Size.{Size}
-use Rattle.bits.specs.Ones.{Ones, sumBelow, OnesBetween}
+use Rattle.ones.specs.Ones.{Ones, sumBelow, OnesBetween}
 use Rattle.bits.proofs.Bits.{bit-zero-or-one, bit-of-byte, half-bits}
 use Rattle.bits.proofs.Change.{bit-inside}
 
 -- a number before others, if its digit is 1
 pick : ℕ → ℕ → List ℕ → List ℕ

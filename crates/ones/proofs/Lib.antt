@@ -1,0 +1,2 @@
+-- Laws of the count of ones, byte by byte.
+pub mod Counting

@@ -1,0 +1,2 @@
+-- How many bits are set.
+pub mod Ones
