@@ -17,7 +17,7 @@ use Rattle.table.proofs.RowList.{rows-number}
 use Rattle.table.specs.Fields.{tableOf, rowOf, Tells}
 use Rattle.machine.specs.Step.{Situation, Takes, Step}
 use Rattle.machine.specs.Run.{Reach, begins, goes, Accepts, Passes}
-use Rattle.judgement.specs.Verdict.{Verdict, Yes, No, LimitMet, verdictNumber, IsVerdict}
+use Rattle.judgement.specs.Verdict.{verdictNumber, IsVerdict}
 use Rattle.judgement.specs.Marks.{markBytes, firstHalf, HasMark, markOf, Marks}
 use Rattle.judge.specs.Search.{situations, situationOf, Searched, MarkedAccepts}
 use Rattle.judge.specs.Inner.{verdictOf, Unmarked, Undecided, Decided}
@@ -144,10 +144,3 @@ module _ {image w : List ℕ} {L : ℕ} {m : List ℕ} {over : Bool} (found : Se
     marks = found-marks found bytes;
     number = rw is refl;
   }
-
--- no verdict's number is above 3
-pub verdict-low : (v : Verdict) → verdictNumber v ≤ 3
-unfolding verdictNumber
-verdict-low Yes = omega arith
-verdict-low No = omega arith
-verdict-low LimitMet = omega arith

@@ -15,10 +15,10 @@ use Rattle.table.proofs.Image.{table-once}
 use Rattle.table.proofs.Refusal.{Single, Gives, Each, single-because, single-at-zero, first-once, first-has}
 use Rattle.machine.specs.Run.{Reach, Accepts}
 use Rattle.machine.proofs.Run.{no-everywhere}
-use Rattle.judgement.specs.Verdict.{Verdict, Yes, No, LimitMet, verdictNumber, IsVerdict}
+use Rattle.judgement.specs.Verdict.{Verdict, Yes, No, verdictNumber, IsVerdict}
 use Rattle.judgement.specs.Marks.{Marks}
 use Rattle.judgement.specs.Judge.{FirstOutside, reasons, Judgeable, Answer, judged, refused, answerNumber, Judged, Refused, AnswerRight, Judges}
-use Rattle.judgement.proofs.Verdict.{verdict-once, verdict-never-zero, count-at-most}
+use Rattle.judgement.proofs.Verdict.{verdict-once, verdict-never-zero, verdict-low, verdict-number-once, count-at-most}
 use Rattle.judgement.proofs.Marks.{marks-once}
 
 -- a letter of the one table of an image is a letter of the other
@@ -136,23 +136,32 @@ pub number-tells
 unfolding answerNumber
 number-tells a = let small = count-small a in (omega arith, omega arith)
 
--- the answer whose number begins with 2 is a no
-answer-no
-    : (image word : List ℕ) (limit : ℕ) (before after : List ℕ) (a : Answer) → AnswerRight image word limit before after a → answerNumber a / 1000000 ≡ 2
-    → (count : ℕ) × Judged image word limit before after No count
-unfolding answerNumber verdictNumber
-answer-no image word limit before after (judged Yes count) a two = absurd (omega (arith, count-small a))
-answer-no image word limit before after (judged No count) a two = (count, a)
-answer-no image word limit before after (judged LimitMet count) a two = absurd (omega (arith, count-small a))
-answer-no image word limit before after (refused n p) a two =
-    absurd (omega (arith, first-has (λ n p. 21 ≤ n) (reasons image word limit before) (reasons-numbered image word limit before) (a .first)))
+-- the answer whose number begins with a verdict's is that verdict
+answer-says
+    : (image word : List ℕ) (limit : ℕ) (before after : List ℕ) (v : Verdict) (a : Answer)
+    → AnswerRight image word limit before after a → answerNumber a / 1000000 ≡ verdictNumber v
+    → (count : ℕ) × Judged image word limit before after v count
+unfolding answerNumber
+answer-says image word limit before after v (judged w count) a same =
+    let is = verdict-number-once (sym (number-tells a .0) ∙ same) in
+    (count, subst (λ (x : Verdict). Judged image word limit before after x count) is a)
+answer-says image word limit before after v (refused n p) a same =
+    absurd (omega (
+      arith,
+      verdict-low v,
+      first-has (λ n p. 21 ≤ n) (reasons image word limit before) (reasons-numbered image word limit before) (a .first),
+    ))
 
--- so where the judge says no, no run accepts, however high the counter may go
-pub says-no
-    : {image word : List ℕ} {limit : ℕ} {before after : List ℕ} {r : ℕ} → Judges image word limit before after r → r / 1000000 ≡ 2
-    → {t : Table} → IsImage t image → (M : ℕ) → ¬ Accepts t word M
-says-no {image} {word} {limit} {before} {after} j two =
-    no-at-every-height (answer-no image word limit before after (j .answer) (j .right) (rw (← (j .number)) two) .1)
+module _ {image word : List ℕ} {limit : ℕ} {before after : List ℕ} {r : ℕ} (j : Judges image word limit before after r) where
+  -- so where the judge says yes, some run within the limit accepts
+  pub says-yes : r / 1000000 ≡ verdictNumber Yes → {t : Table} → IsImage t image → Accepts t word limit
+  says-yes said is =
+      let a = answer-says image word limit before after Yes (j .answer) (j .right) (rw (← (j .number)) said) .1 in
+      subst (λ (t : Table). Accepts t word limit) (table-once (a .judgeable .isImage) is) (a .verdict)
+
+  -- and where it says no, none accepts, however high the counter may go
+  pub says-no : r / 1000000 ≡ verdictNumber No → {t : Table} → IsImage t image → (M : ℕ) → ¬ Accepts t word M
+  says-no said = no-at-every-height (answer-says image word limit before after No (j .answer) (j .right) (rw (← (j .number)) said) .1)
 
 -- a place of a word that is not too long is below a million
 later-places

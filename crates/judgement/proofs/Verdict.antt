@@ -1,9 +1,11 @@
 -- A table, a word and a limit have one verdict, and no more situations are reached than there are.
 use Prim.Native.Nat.{ℕ, _+_, _*_, _≤_}
 use native.Mathlib.Omega.{arith}
-use mathlib.Core.Path.{_≡_, refl}
+use mathlib.Core.Path.{_≡_, refl, sym, ap, _∙_}
+use mathlib.Core.Bool.{cond}
 use mathlib.Core.List.{List}
 use lib.ListN.{length}
+use lib.Dec.{eqb}
 use Rattle.bits.specs.Size.{Size}
 use Rattle.bits.proofs.Size.{size-numbered}
 use Rattle.table.specs.Table.{Table}
@@ -32,6 +34,27 @@ unfolding verdictNumber
 verdict-never-zero Yes = omega arith
 verdict-never-zero No = omega arith
 verdict-never-zero LimitMet = omega arith
+
+-- and at most 3
+pub verdict-low : (v : Verdict) → verdictNumber v ≤ 3
+unfolding verdictNumber
+verdict-low Yes = omega arith
+verdict-low No = omega arith
+verdict-low LimitMet = omega arith
+
+-- the verdict with a number
+numbered : ℕ → Verdict
+numbered n = cond (eqb n 1) Yes (cond (eqb n 2) No LimitMet)
+
+number-of : (v : Verdict) → numbered (verdictNumber v) ≡ v
+unfolding verdictNumber numbered
+number-of Yes = refl
+number-of No = refl
+number-of LimitMet = refl
+
+-- verdicts with the same number are equal
+pub verdict-number-once : {a b : Verdict} → verdictNumber a ≡ verdictNumber b → a ≡ b
+verdict-number-once {a} {b} same = sym (number-of a) ∙ ap numbered same ∙ number-of b
 
 module _ {t : Table} {w : List ℕ} {L : ℕ} where
   -- what is reached is among the situations of the table's states, the word's cells and the counter values up to the limit
