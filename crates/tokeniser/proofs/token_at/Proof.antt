@@ -1,4 +1,4 @@
--- `text::token_at` meets its contract. The loop's invariant: what comes first from here comes first in all.
+-- `tokeniser::token_at` meets its contract. The loop's invariant: what comes first from here comes first in all.
 use Prim.Native.Nat.{_-_}
 use native.Mathlib.Omega.{arith}
 use lib.ListN.{length}

@@ -1,4 +1,4 @@
--- `text::ends::number_end` meets its contract. The loop's invariant: wherever the run from here ends, the whole run does.
+-- `tokeniser::ends::number_end` meets its contract. The loop's invariant: wherever the run from here ends, the whole run does.
 use Prim.Native.Nat.{ℕ, _-_}
 use native.Mathlib.Omega.{arith}
 use mathlib.Core.Path.{sym, _∙_}

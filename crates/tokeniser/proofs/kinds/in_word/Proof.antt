@@ -1,4 +1,4 @@
--- `text::kinds::in_word` meets its contract: the bytes of a word are of the first three kinds.
+-- `tokeniser::kinds::in_word` meets its contract: the bytes of a word are of the first three kinds.
 use borrow.Author.Needs.{needs}
 use mathlib.Core.Path.{sym, _∙_}
 use mathlib.Core.List.{[], _∷_}

@@ -1,4 +1,4 @@
--- `text::kinds::is_digit` meets its contract: digits are of the first kind.
+-- `tokeniser::kinds::is_digit` meets its contract: digits are of the first kind.
 use borrow.Author.Needs.{needs}
 use mathlib.Core.Path.{sym, _∙_}
 use mathlib.Core.List.{[], _∷_}

@@ -1,4 +1,4 @@
--- `text::kinds::is_letter` meets its contract: letters are of the first two kinds.
+-- `tokeniser::kinds::is_letter` meets its contract: letters are of the first two kinds.
 use borrow.Author.Needs.{needs}
 use mathlib.Core.Path.{sym, _∙_}
 use mathlib.Core.List.{[], _∷_}

@@ -1,4 +1,4 @@
--- `text::kinds::kind_of` meets its contract: each arm's bytes are of its kind, by a test that is computed over them.
+-- `tokeniser::kinds::kind_of` meets its contract: each arm's bytes are of its kind, by a test that is computed over them.
 use native.Mathlib.Omega.{arith}
 use Prim.Native.Nat.{ℕ}
 use mathlib.Core.List.{List, [], _∷_}

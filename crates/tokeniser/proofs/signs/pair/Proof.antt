@@ -1,4 +1,4 @@
--- `text::signs::pair` meets its contract: a sign of two bytes ends with an equals sign, or is one byte twice, and the keys are the first bytes of these.
+-- `tokeniser::signs::pair` meets its contract: a sign of two bytes ends with an equals sign, or is one byte twice, and the keys are the first bytes of these.
 use mathlib.Core.List.{[], _∷_}
 use borrow.Author.Needs.{needs}
 use Rattle.tokeniser.proofs.Signing.{no-ending, no-mixed, no-double, twice}

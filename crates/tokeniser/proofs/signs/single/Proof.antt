@@ -1,4 +1,4 @@
--- `text::signs::single` meets its contract: its keys are the signs of one byte.
+-- `tokeniser::signs::single` meets its contract: its keys are the signs of one byte.
 use mathlib.Core.List.{[], _∷_}
 use borrow.Author.Needs.{needs}
 use Rattle.tokeniser.proofs.Signing.{no-single}

@@ -1,4 +1,4 @@
--- `text::steps::byte_at` meets its contract: past the end stands the 0.
+-- `tokeniser::steps::byte_at` meets its contract: past the end stands the 0.
 use mathlib.Core.Path.{sym}
 use lib.ListN.{List·getD-eq-default}
 use borrow.Author.Needs.{needs}

@@ -1,4 +1,4 @@
--- `text::steps::letter_at` meets its contract: each test rules a letter out, or all are passed.
+-- `tokeniser::steps::letter_at` meets its contract: each test rules a letter out, or all are passed.
 use native.Mathlib.Omega.{arith}
 use mathlib.Core.Path.{sym, _∙_}
 use borrow.Author.Tests.{not-true, not-false}

@@ -1,4 +1,4 @@
--- `text::steps::number_at` meets its contract: the run ends where the number does.
+-- `tokeniser::steps::number_at` meets its contract: the run ends where the number does.
 use Rattle.tokeniser.proofs.Standing.{number-first}
 use borrow.Author.Needs.{needs}
 use Rattle.tokeniser.proofs.steps.number_at.Statement.{statement}

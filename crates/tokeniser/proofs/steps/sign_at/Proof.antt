@@ -1,4 +1,4 @@
--- `text::steps::sign_at` meets its contract: the longest sign is the pair, or else the single byte.
+-- `tokeniser::steps::sign_at` meets its contract: the longest sign is the pair, or else the single byte.
 use Rattle.tokeniser.proofs.Standing.{pair-first, single-first, neither-first}
 use borrow.Author.Needs.{needs}
 use Rattle.tokeniser.proofs.steps.sign_at.Statement.{statement}

@@ -1,4 +1,4 @@
--- `text::steps::slash_at` meets its contract: a second slash tells.
+-- `tokeniser::steps::slash_at` meets its contract: a second slash tells.
 use mathlib.Core.Path.{sym, _∙_}
 use Rattle.tokeniser.proofs.Standing.{comment-skips, slash-bad}
 use borrow.Author.Needs.{needs}

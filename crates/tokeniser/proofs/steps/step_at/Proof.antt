@@ -1,4 +1,4 @@
--- `text::steps::step_at` meets its contract: each kind is told by its test, which its function requires.
+-- `tokeniser::steps::step_at` meets its contract: each kind is told by its test, which its function requires.
 use lib.ListN.{getD}
 use Rattle.tokeniser.specs.declared.kinds.Kind.the-variants.{Digit, Alphabetic, Underscore, Quote, White, Slash, Sign, Other}
 use Rattle.tokeniser.proofs.Sorting.{told}

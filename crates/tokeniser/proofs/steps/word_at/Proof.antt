@@ -1,4 +1,4 @@
--- `text::steps::word_at` meets its contract: the run ends where the word does.
+-- `tokeniser::steps::word_at` meets its contract: the run ends where the word does.
 use native.Mathlib.Omega.{arith}
 use Rattle.tokeniser.proofs.Standing.{word-first, run-onward, run-within}
 use borrow.Author.Needs.{needs}

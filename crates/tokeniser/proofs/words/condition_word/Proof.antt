@@ -1,4 +1,4 @@
--- `text::words::condition_word` meets its contract: bytes that compare equal are that word, and those that differ from all are another.
+-- `tokeniser::words::condition_word` meets its contract: bytes that compare equal are that word, and those that differ from all are another.
 use borrow.Author.Needs.{needs}
 use Rattle.text.proofs.Named.{_nor_}
 use Rattle.text.proofs.Named.{differs, none-of-all}

@@ -1,4 +1,4 @@
--- `text::words::plain_word` meets its contract: bytes that compare equal are that word, and those that differ from all are handed on as none of them.
+-- `tokeniser::words::plain_word` meets its contract: bytes that compare equal are that word, and those that differ from all are handed on as none of them.
 use borrow.Author.Needs.{needs}
 use Rattle.text.proofs.Named.{_nor_}
 use Rattle.text.proofs.Named.{differs}

@@ -1,4 +1,4 @@
--- `text::words::word_of` meets its contract: bytes that compare equal are that word, and those that differ from all are handed on as none of them.
+-- `tokeniser::words::word_of` meets its contract: bytes that compare equal are that word, and those that differ from all are handed on as none of them.
 use borrow.Author.Needs.{needs}
 use Rattle.text.proofs.Named.{none, _nor_}
 use Rattle.text.proofs.Named.{differs}
