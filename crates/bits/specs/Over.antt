@@ -1,4 +1,4 @@
--- Bytes that are put over others.
+-- Bytes that are put over others, as functions that write say it of each other. No caller relies on it.
 use Prim.Native.Nat.{ℕ, _+_}
 use mathlib.Core.List.{List, _++_}
 use lib.ListN.{length, take, drop}

@@ -4,7 +4,7 @@ use native.Mathlib.Omega.{arith}
 use mathlib.Core.Path.{_≡_, refl, sym, ap, _∙_, subst}
 use mathlib.Core.Bool.{Bool, true, false, not, true≢false}
 use mathlib.Core.Option.{none, some}
-use mathlib.Core.List.{List, [], _∷_, cons≢nil}
+use mathlib.Core.List.{List, [], _∷_}
 use lib.ListN.{length}
 use denote.Enum.Declared.{tagOf}
 use types.Run.{OneOf, hit, miss}
@@ -26,6 +26,7 @@ use Rattle.rule.specs.Tree.{Number}
 use Rattle.rule.specs.Grammar as Grammar
 use Rattle.rule.specs.Grammar.{Ts, IsSought, IsAtom}
 use Rattle.rule.specs.Limits.{faultIf, isIn, soughtFaults, numberFaults, atomFaults}
+use Rattle.rule.proofs.Within.{kept}
 use Rattle.rule.specs.Inside.Class as Class
 use Rattle.rule.specs.Inside.Class.{Class, tokenOf, token-of-class}
 use Rattle.rule.specs.Inside.Machine.{Symbol, number, operand, sought, Stack, Value, Totals, counted, Move, outside, choices, pick, move, run}
@@ -204,7 +205,7 @@ module _ {text : List ℕ} {from p q : ℕ} {a : List ℕ} (equal : Bool) (o r :
       → Front text from (Class.letter b) p q
       → isIn b a ≡ true
       → Tests text from a (λ ts. behind (w "read") o (behind (compared equal) r ts)) sought (Found (Atom.Read equal (Sought.Letter b)) q)
-  unfolding soughtFaults
+  unfolding soughtFaults faultIf
   letter-found {b} f h =
       sought-found (Tree.letter (record { byte = b; place = p })) f (λ ts. Grammar.aLetter) (ap (λ (t : Bool). faultIf (not t) 6 p) h)
 
@@ -213,7 +214,7 @@ module _ {text : List ℕ} {from p q : ℕ} {a : List ℕ} (equal : Bool) (o r :
       → Front text from (Class.number l) p q
       → outside 0 l ≡ false
       → Tests text from a (λ ts. behind (w "c") o (behind (compared equal) r ts)) (number 0) (Found (Atom.Counter equal) q)
-  unfolding numberFaults
+  unfolding numberFaults faultIf
   zero-found {l} f h =
       let n : Number = record { digits = l; place = p } in
       test-found
@@ -250,17 +251,13 @@ nor-sign {k = k} h f e = go k (ap isSign (first-once f (h .first)) ∙ h .none) 
     go (Token.End p) h e = hit (1 ∷ 2 ∷ 4 ∷ 5 ∷ []) 4 tt
     go (Token.Broken p) h e = hit (1 ∷ 2 ∷ 4 ∷ 5 ∷ []) 5 tt
 
-fault-none : (b : Bool) (n p : ℕ) → faultIf b n p ≡ [] → b ≡ false
-fault-none true n p e = absurd (cons≢nil e)
-fault-none false n p e = refl
-
 module _ (t : Totals) (st : Stack) (e : Ending) where
   sought-runs : {ts us : Ts} {x : Tree.Sought}
       → IsSought ts x us
       → soughtFaults (t .alphabet) x ≡ []
       → run (sought ∷ st) t ts e ≡ run st t us e
   unfolding run move soughtFaults
-  sought-runs (Grammar.aLetter {p = p} {b = b}) h = rw (fault-none (not (isIn b (t .alphabet))) 6 p h, run)
+  sought-runs (Grammar.aLetter {p = p} {b = b}) h = rw (kept (not (isIn b (t .alphabet))) 6 p h, run)
   sought-runs Grammar.lend h = refl
   sought-runs Grammar.rend h = refl
 
@@ -268,7 +265,7 @@ module _ (t : Totals) (st : Stack) (e : Ending) where
       → numberFaults 0 (record { digits = n; place = p }) ≡ []
       → run (number 0 ∷ st) t ((Spelt.number n at p) ∷ ts) e ≡ run st t ts e
   unfolding run move numberFaults
-  zero-runs n p ts h = rw (fault-none (outside 0 n) 7 p h, run)
+  zero-runs n p ts h = rw (kept (outside 0 n) 7 p h, run)
 
 pub rows-most : (k : ℕ) (atom : Atom) → rowsOf k atom ≤ k + 2
 rows-most k (Atom.Read equal x) = omega arith

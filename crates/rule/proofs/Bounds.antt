@@ -3,7 +3,7 @@ use Prim.Native.Nat.{ℕ, suc, _≤_}
 use native.Mathlib.Omega.{arith}
 use mathlib.Core.Path.{refl, sym, subst}
 use mathlib.Core.Logic.{⊎-elim}
-use mathlib.Core.Bool.{Bool, true, false, not, _&&_, _||_}
+use mathlib.Core.Bool.{Bool, true, false}
 use mathlib.Core.List.{
   List,
   [],
@@ -63,24 +63,7 @@ use Rattle.rule.specs.Tree.{
   Program,
   letterBytes,
 }
-use Rattle.rule.specs.Limits.{
-  Fault,
-  faultIf,
-  isIn,
-  letterFaults,
-  value,
-  inForm,
-  numberFaults,
-  soughtFaults,
-  atomFaults,
-  tooDeep,
-  conditionFaults,
-  plainFaults,
-  statementFaults,
-  statementsFaults,
-  armsFaults,
-  faults,
-}
+use Rattle.rule.specs.Limits.{Fault, faultIf, letterFaults, numberFaults, soughtFaults, atomFaults, tooDeep, conditionFaults, plainFaults, statementFaults, statementsFaults, armsFaults, faults}
 use Rattle.rule.specs.Faults.{FirstFault, noToken, notHere, early, limit}
 
 -- faults of the limits have numbers 5 to 9
@@ -94,6 +77,7 @@ join : {fs gs : List Fault} → Numbered fs → Numbered gs → Numbered (fs ++ 
 join {fs} a b = record { number = λ f m. ⊎-elim (a .number f) (b .number f) (List·Memᴰ·append-cases fs m) }
 
 fault-if : (b : Bool) (n p : ℕ) → 5 ≤ n → n ≤ 9 → Numbered (faultIf b n p)
+unfolding faultIf
 fault-if true n p low high =
     record {
       number = λ f m.
@@ -104,18 +88,18 @@ fault-if false n p low high = no-fault
 letters-numbered : (ls : List Letter) (before : List ℕ) → Numbered (letterFaults before ls)
 unfolding letterFaults
 letters-numbered [] before = no-fault
-letters-numbered (l ∷ ls) before = join (fault-if (isIn (l .byte) before || leb 16 (length before)) 5 (l .place) (omega arith) (omega arith)) (letters-numbered ls (before ++ (l .byte ∷ [])))
+letters-numbered (l ∷ ls) before = join (fault-if _ 5 _ (omega arith) (omega arith)) (letters-numbered ls (before ++ (l .byte ∷ [])))
 
 number-numbered : (greatest : ℕ) (n : Number) → Numbered (numberFaults greatest n)
 unfolding numberFaults
-number-numbered greatest n = fault-if (not (inForm (n .digits) && leb (value n) greatest)) 7 (n .place) (omega arith) (omega arith)
+number-numbered greatest n = fault-if _ 7 _ (omega arith) (omega arith)
 
 deep : (opened o : ℕ) → Numbered (tooDeep opened o)
-deep opened o = fault-if (leb 16 opened) 8 o (omega arith) (omega arith)
+deep opened o = fault-if _ 8 _ (omega arith) (omega arith)
 
 sought-numbered : (alphabet : List ℕ) (x : Sought) → Numbered (soughtFaults alphabet x)
 unfolding soughtFaults
-sought-numbered alphabet (letter l) = fault-if (not (isIn (l .byte) alphabet)) 6 (l .place) (omega arith) (omega arith)
+sought-numbered alphabet (letter l) = fault-if _ 6 _ (omega arith) (omega arith)
 sought-numbered alphabet lend = no-fault
 sought-numbered alphabet rend = no-fault
 
@@ -146,7 +130,7 @@ plain-numbered (add n) = number-numbered 31 n
 plain-numbered (subtract n) = number-numbered 31 n
 
 ninth : (arms p : ℕ) → Numbered (faultIf (leb 8 arms) 9 p)
-ninth arms p = fault-if (leb 8 arms) 9 p (omega arith) (omega arith)
+ninth arms p = fault-if _ 9 _ (omega arith) (omega arith)
 
 mutual
   unfolding statementFaults statementsFaults armsFaults

@@ -56,7 +56,7 @@ same-far : {l : List ℕ} {a a′ b b′ : ℕ} {f f′ : List Fault}
 same-far {l} p q r = λ i. record { totals = record { alphabet = l; states = p i; rows = q i }; seen = r i }
 
 noted-is : (b : Bool) (n p : ℕ) (f : List Fault) → noted b n p f ≡ f ++ faultIf b n p
-unfolding noted
+unfolding noted faultIf
 noted-is true n p f = refl
 noted-is false n p f = sym (append-nil f)
 

@@ -99,7 +99,8 @@ nil-right [] ys e = e
 nil-right (x ∷ xs) ys e = cc
 
 -- no fault, so the limit is kept
-kept : (b : Bool) (n p : ℕ) → faultIf b n p ≡ [] → b ≡ false
+pub kept : (b : Bool) (n p : ℕ) → faultIf b n p ≡ [] → b ≡ false
+unfolding faultIf
 kept true n p e = cc
 kept false n p e = refl
 

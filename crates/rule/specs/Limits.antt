@@ -58,7 +58,7 @@ abbrev pub fault : ℕ → ℕ → Fault
 fault n p = record { number = n; place = p }
 
 -- a fault, if the limit is broken
-abbrev pub faultIf : Bool → ℕ → ℕ → List Fault
+unfoldable pub faultIf : Bool → ℕ → ℕ → List Fault
 faultIf true n p = fault n p ∷ []
 faultIf false n p = []
 
