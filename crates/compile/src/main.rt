@@ -1,7 +1,6 @@
 // compile [IMAGE]: compiles the rule on standard input and prints one line, `ok STATES ROWS BYTES` or `no NUMBER PLACE`. With
 // a name it also writes the image to the file of that name, if the rule compiles. What keeps it from that is said on standard
 // error, and then no line is printed.
-use construction::Answer;
 use libc::STDERR_FILENO;
 use libc::STDIN_FILENO;
 use libc::STDOUT_FILENO;
@@ -27,29 +26,21 @@ fn saved(image: &[u8]) -> bool {
     files::save(&path[..n], image)
 }
 
-fn print(answer: Answer) {
-    let mut text = [0u8; 66];
-    let n = line::compile_line(answer, &mut text);
-    io::write_all(STDOUT_FILENO, &text[..n]);
-}
-
 // The file is written before the line, so that `ok` says that it is there.
-fn compile(text: &[u8]) {
+fn compile(text: &[u8; 4097], many: usize) {
     let mut image = [0u8; 8246];
-    let answer = compiler::compile(text, &mut image);
-    if let Answer::Compiled {
-        bytes,
-        states: _,
-        rows: _,
-    } = answer {
+    let mut line = [0u8; 66];
+    let answered = programs::compile_text(text, many, &mut image, &mut line);
+    let bytes = answered.image;
+    if 0 < bytes {
         if !saved(&image[..bytes]) {
             return;
         }
     }
-    print(answer);
+    let length = answered.line;
+    io::write_all(STDOUT_FILENO, &line[..length]);
 }
 
-// One byte more than a text may have tells a longer one.
 fn main() {
     if 2 < os::arg_count() {
         usage();
@@ -62,5 +53,5 @@ fn main() {
         return;
     }
     let n = files::count(got, &text);
-    compile(&text[..n]);
+    compile(&text, n);
 }

@@ -1,61 +1,7 @@
 // verdict IMAGE WORD LIMIT: judges a word with the table of an image file, and prints one line: `yes COUNT`, `no COUNT`,
 // `limit met COUNT`, or `refused NUMBER PLACE` and what that means. What cannot be judged at all is said on standard error.
-ghost use Prim.Native.Nat.{_≤_};
-ghost use mathlib.Core.Path.{_≡_};
 use libc::STDERR_FILENO;
 use libc::STDOUT_FILENO;
-
-fn print(answer: u64) {
-    let mut text = [0u8; 105];
-    let n = line::verdict_line(answer, &mut text);
-    io::write_all(STDOUT_FILENO, &text[..n]);
-}
-
-// The value of a digit, or 10.
-fn digit(b: u8) -> u64
-    ensures { λ r. ⌜ r ≤ 10 ⌝ }
-{
-    if b < b'0' {
-        return 10;
-    }
-    if b'9' < b {
-        return 10;
-    }
-    wide(b - b'0')
-}
-
-fn wide(b: u8) -> u64
-    ensures { λ r. ⌜ r ≡ b ⌝ }
-{
-    b as u64
-}
-
-// The number that one to three digits are, or 1000: a limit has no more.
-fn number(digits: &[u8]) -> u64 {
-    if digits.len() == 1 {
-        return together(0, 0, digit(digits[0]));
-    }
-    if digits.len() == 2 {
-        return together(0, digit(digits[0]), digit(digits[1]));
-    }
-    if digits.len() == 3 {
-        return together(digit(digits[0]), digit(digits[1]), digit(digits[2]));
-    }
-    1000
-}
-
-fn together(a: u64, b: u64, c: u64) -> u64 {
-    if 9 < a {
-        return 1000;
-    }
-    if 9 < b {
-        return 1000;
-    }
-    if 9 < c {
-        return 1000;
-    }
-    a * 100 + b * 10 + c
-}
 
 fn usage() {
     io::write_all(
@@ -64,14 +10,20 @@ fn usage() {
     );
 }
 
-// Judges with an image that is in memory.
-fn judge(image: &[u8], word: &[u8], limit: u64) {
+// Judges with an image that is in memory. A limit that is no number is told like arguments that are missing.
+fn judge(image: &[u8; 8247], many: usize, word: &[u8], digits: &[u8]) {
     let mut marks = io::large_buffer();
-    print(judge::judge(image, word, limit, &mut marks));
+    let mut line = [0u8; 105];
+    let n = programs::judge_word(image, many, word, digits, &mut marks, &mut line);
+    if n == 0 {
+        usage();
+        return;
+    }
+    io::write_all(STDOUT_FILENO, &line[..n]);
 }
 
-// Judges with the image in a file. An image has at most 8,246 bytes, so one byte more of room tells a longer file.
-fn judge_file(path: &[u8], word: &[u8], limit: u64) {
+// Judges with the image in a file.
+fn judge_file(path: &[u8], word: &[u8], digits: &[u8]) {
     let fd = os::open_read(path);
     if fd < 0 {
         os::fail(path);
@@ -85,7 +37,7 @@ fn judge_file(path: &[u8], word: &[u8], limit: u64) {
         return;
     }
     let n = files::count(got, &image);
-    judge(&image[..n], word, limit);
+    judge(&image, n, word, digits);
 }
 
 fn main() {
@@ -107,10 +59,5 @@ fn main() {
         usage();
         return;
     }
-    let limit = number(&digits[..digits_len]);
-    if limit == 1000 {
-        usage();
-        return;
-    }
-    judge_file(&path[..path_len], &word[..word_len], limit);
+    judge_file(&path[..path_len], &word[..word_len], &digits[..digits_len]);
 }

@@ -1,25 +1,17 @@
--- The image is within its buffer. Assumes nothing.
+-- Image and line are within their buffers. Assumes nothing.
+use Rattle.programs.proofs.Answering.{text-counts}
 use borrow.Author.Needs.{needs}
-use Rattle.compile.proofs.Image.{compiled-counts}
 use Rattle.compile.proofs.compile.Statement.{statement}
 use Rattle.compile.proofs.compile.Tie as tie
 
-slice-aggregate-compile : tie.Need-slice-aggregate-compile
-slice-aggregate-compile c = search needs
-
-compile-requires : tie.Need-compile-requires
-compile-requires c κs = search needs
-
-enum-known-answer : tie.Need-enum-known-answer
-enum-known-answer c = search needs
+compile-text-requires : tie.Need-compile-text-requires
+compile-text-requires c κs = search needs
 
 array-share-prefix-image : tie.Need-array-share-prefix-image
-array-share-prefix-image c =
-    compiled-counts ((rw (c .before .answer .given .1) at (c .before .before .before .before .compile .ensures)) .right) .0
+array-share-prefix-image c = text-counts (c .before .compile-text .ensures) .0 .0
 
 slice-aggregate-saved : tie.Need-slice-aggregate-saved
-slice-aggregate-saved c =
-    compiled-counts ((rw (c .before .before .answer .given .1) at (c .before .before .before .before .before .compile .ensures)) .right) .1
+slice-aggregate-saved c = text-counts (c .before .before .compile-text .ensures) .0 .1
 
 saved-requires : tie.Need-saved-requires
 saved-requires c κs = search needs
@@ -27,11 +19,14 @@ saved-requires c κs = search needs
 returns : tie.Need-returns
 returns c = search needs
 
-enum-told : tie.Need-enum-told
-enum-told c = search needs
+array-share-prefix-line : tie.Need-array-share-prefix-line
+array-share-prefix-line c = text-counts (c .before .compile-text .ensures) .1 .0
 
-print-requires : tie.Need-print-requires
-print-requires c κs = search needs
+slice-aggregate-write-all : tie.Need-slice-aggregate-write-all
+slice-aggregate-write-all c = text-counts (c .before .before .compile-text .ensures) .1 .1
+
+write-all-requires : tie.Need-write-all-requires
+write-all-requires c κs = search needs
 
 returns-2 : tie.Need-returns-2
 returns-2 c = search needs
@@ -40,13 +35,12 @@ pub compile-spec : {M : Type 1} → statement M
 compile-spec =
     tie.close
     (tie.spec
-    slice-aggregate-compile
-    compile-requires
-    enum-known-answer
+    compile-text-requires
     array-share-prefix-image
     slice-aggregate-saved
     saved-requires
     returns
-    enum-told
-    print-requires
+    array-share-prefix-line
+    slice-aggregate-write-all
+    write-all-requires
     returns-2)

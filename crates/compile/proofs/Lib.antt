@@ -1,2 +1,0 @@
--- Laws of the image that is written.
-pub mod Image
