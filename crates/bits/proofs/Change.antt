@@ -1,13 +1,13 @@
--- What a bit is after a bit was set or cleared, past the end, and in bytes that are all 0.
+-- What a bit is after a bit was set or cleared, past the end, in the first bytes, and in bytes that are all 0.
 use Prim.Native.Nat.{ℕ, _-_, _*_, _/_, _%_, _^_, _≤_, _<_}
 use native.Mathlib.Nat.{zero-div}
 use native.Mathlib.Decide.{ℕ-discrete, decLt}
 use native.Mathlib.Omega.{arith}
-use mathlib.Core.Path.{_≡_, refl, sym, _∙_}
+use mathlib.Core.Path.{_≡_, refl, sym, ap, _∙_}
 use mathlib.Core.Logic.{⊎-elim}
 use mathlib.Core.List.{List, _++_, append-nil}
-use lib.ListN.{length, getD, set, drop, replicate, length-set, getD-replicate, length-replicate, List·getD-eq-default}
-use lib.Seq.{getD-set-same, getD-set-other, set-out, set-getD, drop-length}
+use lib.ListN.{length, getD, set, take, drop, replicate, length-set, length-take, getD-replicate, length-replicate, List·getD-eq-default}
+use lib.Seq.{getD-set-same, getD-set-other, getD-take, set-out, set-getD, drop-length}
 use Rattle.bits.specs.Bit.{bit, withBit, withoutBit, Bytes}
 use lib.Bits.{bitOr}
 use Rattle.bits.proofs.Digits.{one-shifted, or-number, digit-at-most, digit-cases, cleared-clear, cleared-full}
@@ -41,6 +41,15 @@ bit-past m i past = rw (List·getD-eq-default m 0 past, zero-div) refl
 -- a bit that is set is inside
 pub bit-inside : (m : List ℕ) (i : ℕ) → bit m i ≡ 1 → i / 8 < length m
 bit-inside m i one = elim (decLt (i / 8) (length m)) [ yes l ↦ l | no n ↦ absurd (omega (arith, bit-past m i (omega arith))) ]
+
+-- the first bytes have the same bits
+pub bit-take : (m : List ℕ) (many i : ℕ) → i < many * 8 → bit (take many m) i ≡ bit m i
+unfolding bit
+bit-take m many i low = ap (λ (b : ℕ). b / 2 ^ (i % 8) % 2) (getD-take many m (i / 8) 0 (omega arith))
+
+-- and no others are set
+pub bit-take-low : (m : List ℕ) (many i : ℕ) → bit (take many m) i ≡ 1 → i < many * 8
+bit-take-low m many i one = omega (arith, bit-inside (take many m) i one, length-take many m)
 
 -- what a bit is in bytes that are all 0
 getD-zeros : (n i : ℕ) → _≡_ {A = ℕ} (getD (replicate n 0) i 0) 0

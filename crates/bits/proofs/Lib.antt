@@ -3,5 +3,6 @@ pub mod Bits
 pub mod Digits
 pub mod Change
 pub mod Size
+pub mod Along
 pub mod Tests
 pub mod Over

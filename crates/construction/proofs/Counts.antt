@@ -1,4 +1,6 @@
--- How many states and rows the construction takes, over every tree and every alphabet: the two formulas of document 01.
+-- How many states and rows the construction takes: the two formulas of document 01. That of the states holds over every tree and every
+-- alphabet. That of the rows holds over every tree without faults: a 17th letter, or a letter outside the alphabet, has no code of its
+-- own, and `read !=` then has another number of rows.
 use Prim.Native.Nat.{ℕ, suc, _+_, _≤_}
 use native.Mathlib.Omega.{arith}
 use mathlib.Core.Path.{_≡_, refl, _∙_, ap}

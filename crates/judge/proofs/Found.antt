@@ -6,11 +6,11 @@ use mathlib.Core.Path.{_≡_, refl, sym, _∙_, subst}
 use mathlib.Core.Bool.{Bool, true, false, true≢false}
 use mathlib.Core.List.{List}
 use lib.ListN.{length, take, replicate, length-replicate}
-use lib.Seq.{getD-take, length-take-le, take-all}
+use lib.Seq.{length-take-le, take-all}
 use Rattle.bits.specs.Bit.{bit, Bytes}
 use Rattle.bits.specs.Size.{Size}
 use Rattle.ones.specs.Ones.{Ones}
-use Rattle.bits.proofs.Change.{bit-inside, bit-zeros}
+use Rattle.bits.proofs.Change.{bit-take-low, bit-zeros}
 use Rattle.bits.proofs.Size.{size-numbered}
 use Rattle.table.specs.Table.{Accepting}
 use Rattle.table.proofs.RowList.{rows-number}
@@ -21,8 +21,8 @@ use Rattle.judgement.specs.Verdict.{verdictNumber, IsVerdict}
 use Rattle.judgement.specs.Marks.{markBytes, firstHalf, HasMark, markOf, Marks}
 use Rattle.judge.specs.Search.{situations, situationOf, Searched, MarkedAccepts}
 use Rattle.judge.specs.Inner.{verdictOf, Unmarked, Undecided, Decided}
-use Rattle.judgement.proofs.Marks.{reached-has-mark, mark-below, mark-of, mark-at}
-use Rattle.judge.proofs.Counted.{size-along}
+use Rattle.judgement.proofs.Marks.{reached-has-mark, mark-below, mark-of}
+use Rattle.judgement.proofs.Counted.{ones-reached}
 
 module _ {image w : List ℕ} {L : ℕ} {m : List ℕ} {over : Bool} (found : Searched image w L m over) where
   -- nothing is pending
@@ -82,23 +82,11 @@ module _ {image w : List ℕ} {L : ℕ} {m : List ℕ} {over : Bool} (found : Se
     accepting = subst (λ (s : Situation). Accepting (tableOf image) (s .state)) (sym (mark-of has)) (a .accepting);
   }
 
-  -- the bits of the first half
-  half-bit : (i : ℕ) → i < situations → bit (take firstHalf m) i ≡ bit m i
-  unfolding bit
-  half-bit i low = rw (getD-take firstHalf m (i / 8) 0 (omega arith)) refl
-
-  half-low : (i : ℕ) → bit (take firstHalf m) i ≡ 1 → i < situations
-  half-low i one = omega (arith, bit-inside (take firstHalf m) i one, length-take-le firstHalf m (omega (arith, found .between .room)))
-
   -- its ones are as many as what is reached
-  pub found-count : {c : ℕ} → Ones (take firstHalf m) c → Size (Reach (tableOf image) w L) c
-  found-count ones =
-      size-along situationOf markOf
-      (λ i one. found .between .sound i (half-low i one) (sym (half-bit i (half-low i one)) ∙ one))
-      (λ s reached. half-bit (markOf s) (mark-below (has-mark reached)) ∙ reached-marked reached)
-      (λ i one. mark-at i)
-      (λ s reached. mark-of (has-mark reached))
-      (ones .size)
+  pub found-count : {c : ℕ} → Bytes m → Ones (take firstHalf m) c → Size (Reach (tableOf image) w L) c
+  found-count bytes ones =
+      let ready = found .between .ready in
+      ones-reached (ready .range) (ready .short) (ready .low) (found-marks bytes) (ones .size)
 
 -- the two questions give the verdict
 pub found-verdict
@@ -130,7 +118,7 @@ module _ {image w : List ℕ} {L : ℕ} {m : List ℕ} {over : Bool} (found : Se
 
   -- its ones are no more than its bits
   pub count-low : {c : ℕ} → Ones (take markBytes (take firstHalf m)) c → c ≤ situations
-  count-low ones = size-numbered (half-whole ones .size) situations (λ i. i) (λ i one. (i, half-low found i one, refl))
+  count-low ones = size-numbered (half-whole ones .size) situations (λ i. i) (λ i one. (i, omega (arith, bit-take-low m firstHalf i one), refl))
 
   -- the verdict, the count and the marks
   pub found-decided
@@ -140,7 +128,7 @@ module _ {image w : List ℕ} {L : ℕ} {m : List ℕ} {over : Bool} (found : Se
     verdict = verdictOf yes over;
     many = count;
     right = found-verdict yes over tells found;
-    count = found-count found (half-whole ones);
+    count = found-count found bytes (half-whole ones);
     marks = found-marks found bytes;
     number = rw is refl;
   }

@@ -5,7 +5,6 @@ pub mod Searching
 pub mod Following
 pub mod Left
 pub mod Picking
-pub mod Counted
 pub mod Found
 pub mod Answers
 pub mod Deciding

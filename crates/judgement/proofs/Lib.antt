@@ -3,3 +3,5 @@ pub mod Number
 pub mod Verdict
 pub mod Marks
 pub mod Judges
+pub mod Says
+pub mod Counted

@@ -7,7 +7,6 @@ use mathlib.Core.Logic.{_⊎_, inl, inr, ⊎-elim, ∥∥₁-elim}
 use mathlib.Core.HLevel.{⊥-prop}
 use mathlib.Core.List.{List, [], _∷_, List·Memᴰ, List·Memᴰ·head, List·Memᴰ·tail, List·Nodup, Pairwise·nil, Pairwise·cons}
 use lib.ListN.{length, getD, take, length-take}
-use lib.Seq.{getD-take}
 use lib.Arith.{lt-one}
 use lib.Bits.{bitOr, or-add-and, and-le-l, and-le-r}
 use lib.Count.{ones, ones-step}
@@ -15,7 +14,8 @@ use Rattle.bits.specs.Bit.{bit}
 use Rattle.bits.specs.Size.{Size}
 use Rattle.ones.specs.Ones.{Ones, sumBelow, OnesBetween}
 use Rattle.bits.proofs.Bits.{bit-zero-or-one, bit-of-byte, half-bits}
-use Rattle.bits.proofs.Change.{bit-inside}
+use Rattle.bits.proofs.Size.{size-once}
+use Rattle.bits.proofs.Change.{bit-inside, bit-take}
 
 -- a number before others, if its digit is 1
 pick : ℕ → ℕ → List ℕ → List ℕ
@@ -187,11 +187,6 @@ ones-at-most {m} {from} {to} ahead so =
       sum-at-most (λ (j : ℕ). bit m (from * 8 + j)) (λ j. bit-zero-or-one m (from * 8 + j)) ((to - from) * 8),
     )
 
--- the first bytes have the same bits
-bit-take : (m : List ℕ) (many j : ℕ) → j < many * 8 → bit m j ≡ bit (take many m) j
-unfolding bit
-bit-take m many j low = ap (λ (b : ℕ). b / 2 ^ (j % 8) % 2) (sym (getD-take many m (j / 8) 0 (omega arith)))
-
 -- after the first bytes the sum is the number of their bits that are set
 pub ones-all : {m : List ℕ} {to n : ℕ} (many : ℕ) → to ≡ min many (length m) → OnesBetween m 0 to n → Ones (take many m) n
 unfolding sumBelow
@@ -205,4 +200,8 @@ ones-all {m} {to} {n} many end so =
     }
   where
     sum : sumBelow (bit (take many m)) (to * 8) ≡ n
-    sum = omega (arith, so .sum, sum-same (bit m) (bit (take many m)) (to * 8) (λ j low. bit-take m many j (omega arith)))
+    sum = omega (arith, so .sum, sum-same (bit m) (bit (take many m)) (to * 8) (λ j low. sym (bit-take m many j (omega arith))))
+
+-- so a promise of a count of ones leaves no second number
+pub ones-once : {m : List ℕ} {n k : ℕ} → Ones m n → Ones m k → n ≡ k
+ones-once a b = size-once (a .size) (b .size)

@@ -6,3 +6,4 @@ pub mod Encoded
 pub mod Places
 pub mod Reading
 pub mod Refusal
+pub mod RowCode

@@ -1,7 +1,6 @@
--- From a rule's text to a yes: a dock that is lent what the office compiled grants exactly what the rule's program accepts.
-use Prim.Native.Nat.{ℕ, _+_, _*_, _/_, _≤_, _<_}
+-- What a dock's answer says of the rule, where it is lent the image of the table of a program that agrees with it: lemmas of the end theorem.
+use Prim.Native.Nat.{ℕ, _<_}
 use native.Mathlib.Omega.{arith}
-use native.Mathlib.Nat.{mul-le-mul}
 use mathlib.Core.Path.{_≡_, refl, sym, _∙_, ap, subst}
 use mathlib.Core.Logic.{_↔_}
 use mathlib.Core.List.{List, _++_, List·Memᴰ}
@@ -11,17 +10,21 @@ use Rattle.table.specs.Table.{Table}
 use Rattle.table.specs.WellFormed.{IsImage}
 use Rattle.table.specs.Image.{encode}
 use Rattle.table.proofs.Image.{table-once}
-use Rattle.table.proofs.Refusal.{first-has}
-use Rattle.machine.specs.Run.{Accepts}
-use Rattle.judgement.specs.Verdict.{Verdict, Yes, No, LimitMet, verdictNumber, IsVerdict}
-use Rattle.judgement.specs.Judge.{Judgeable, Answer, judged, refused, answerNumber, AnswerRight, Judged, Judges, reasons}
-use Rattle.judgement.proofs.Verdict.{verdict-once, count-at-most}
-use Rattle.judgement.proofs.Judges.{no-reason, reasons-numbered}
+use Rattle.machine.specs.Run.{Accepts, Passes}
+use Rattle.machine.proofs.Run.{no-everywhere}
+use Rattle.judgement.specs.Judge.{Judgeable, Judges}
+use Rattle.judgement.proofs.Says.{Given, below-refusals, judged-below, yes-exactly, no-exactly, limit-met-exactly}
 use Rattle.rule.specs.Tree.{Program, letterBytes}
+use Rattle.rule.specs.Meaning.{ProgramAccepts}
+use Rattle.rule.specs.Faults.{Reads}
+use Rattle.rule.proofs.Outcomes.{reads-once}
 use Rattle.construction.specs.Construction.{construct}
 use Rattle.construction.specs.Agreement.{Agree}
-use Rattle.construction.specs.Compile.{Compiled}
-use Rattle.whole.specs.Grant.{Grants, Deserves}
+use Rattle.construction.specs.declared.Answer.{Answer}
+use Rattle.construction.specs.declared.Answer.the-variants as Answer
+use Rattle.construction.specs.Compile.{answerNumber, Compiled, Compiles, CompilesTo}
+use Rattle.construction.proofs.Compiles.{refused-bounds}
+use Rattle.whole.specs.Grant.{Grants, SaysNo, SaysLimitMet, Asks, Deserves}
 use Rattle.whole.proofs.Alphabet.{compiled-image}
 
 module _ {text before after : List ℕ} {bytes states rows : ℕ} (c : Compiled text before after bytes states rows) where
@@ -37,82 +40,116 @@ module _ {text before after : List ℕ} {bytes states rows : ℕ} (c : Compiled 
             ∙ take-append-seam (encode (construct (c .program))) (drop bytes before);
       }
 
--- a verdict's number is what its answer shows, where the count is below a million
-shown : (v : Verdict) (n : ℕ) → n < 1000000 → (verdictNumber v * 1000000 + n) / 1000000 ≡ 1 → v ≡ Yes
-unfolding verdictNumber
-shown Yes n low e = refl
-shown No n low e = absurd (omega arith)
-shown LimitMet n low e = absurd (omega arith)
-
-yes-shown : (n : ℕ) → n < 1000000 → (1 * 1000000 + n) / 1000000 ≡ 1
-yes-shown n low = omega arith
-
--- a count of a judgement is below a million
-few : {image word before after : List ℕ} {limit n : ℕ} {v : Verdict} → Judged image word limit before after v n → n < 1000000
-few {word = word} {limit = limit} j =
-    let t = j .table in
-    let range = j .judgeable .isImage .inRange in
-    let most = count-at-most range (j .count) in
-    let wide : length word + 2 ≤ 64 = omega (arith, j .judgeable .short) in
-    let high : limit + 1 ≤ 32 = omega (arith, j .judgeable .low) in
-    let cells : t .states * (length word + 2) ≤ 128 * 64 = mul-le-mul (range .fewStates) wide in
-    let all : t .states * (length word + 2) * (limit + 1) ≤ 128 * 64 * 32 = mul-le-mul cells high in
-    omega arith
-
 letters-same : (p : Program) → construct p .alphabet ≡ letterBytes (p .alphabet)
 unfolding construct
 letters-same p = refl
 
--- the same of any image of the table of a program that agrees with it
-module _ {p : Program} {image word marks : List ℕ} (marked : List ℕ) {limit : ℕ} (isImage : IsImage (construct p) image) (agree : Agree p) where
-  same-table : {v : Verdict} {n : ℕ} (j : Judged image word limit marks marked v n) → j .table ≡ construct p
-  same-table j = table-once (j .judgeable .isImage) isImage
+-- any image of the table of a program that agrees with it, and the judge's result on it
+module _
+    {p : Program} {image word marks marked : List ℕ} {limit result : ℕ} (isImage : IsImage (construct p) image) (agree : Agree p)
+    (j : Judges image word limit marks marked result)
+  where
+    -- what the rule can be asked is judged
+    fits : Asks p word limit marks → Judgeable (construct p) image word limit marks
+    fits a = record {
+      isImage = isImage;
+      short = a .short;
+      letters = λ i low. subst (List·Memᴰ (getD word i 0)) (sym (letters-same p)) (a .letters i low);
+      low = a .low;
+      room = a .room;
+    }
 
-  granted : (a : Answer) → AnswerRight image word limit marks marked a → Grants (answerNumber a) → Deserves p word limit marks
-  unfolding answerNumber
-  granted (judged v n) j grants =
-      let same = same-table j in
-      let letters : (i : ℕ) → i < length word → List·Memᴰ (getD word i 0) (construct p .alphabet) =
-      λ i low. subst (λ (t : Table). List·Memᴰ (getD word i 0) (t .alphabet)) same (j .judgeable .letters i low) in
-      let accepts : Accepts (construct p) word limit =
-      subst (λ (t : Table). Accepts t word limit) same
-      (subst (IsVerdict (j .table) word limit) (shown v n (few j) grants) (j .verdict)) in
-      record {
-        short = j .judgeable .short;
-        letters = λ i low. subst (List·Memᴰ (getD word i 0)) (letters-same p) (letters i low);
-        low = j .judgeable .low;
-        room = j .judgeable .room;
-        accepts = agree word limit letters .0 accepts;
-      }
-  granted (refused n q) r grants =
-      absurd (omega (arith, first-has (λ m k. 21 ≤ m) (reasons image word limit marks) (reasons-numbered image word limit marks) (r .first)))
+    -- and nothing else is
+    asked : Given image word limit marks marked result → Asks p word limit marks
+    asked g =
+        let fit = g .judged .judgeable in
+        let same : g .judged .table .alphabet ≡ letterBytes (p .alphabet) =
+        ap (λ (t : Table). t .alphabet) (table-once (fit .isImage) isImage) ∙ letters-same p in
+        record {
+          short = fit .short;
+          letters = λ i low. subst (List·Memᴰ (getD word i 0)) same (fit .letters i low);
+          low = fit .low;
+          room = fit .room;
+        }
 
-  deserved : (a : Answer) → AnswerRight image word limit marks marked a → Deserves p word limit marks → Grants (answerNumber a)
-  unfolding answerNumber verdictNumber
-  deserved (judged v n) j d =
-      let letters : (i : ℕ) → i < length word → List·Memᴰ (getD word i 0) (construct p .alphabet) =
-      λ i low. subst (List·Memᴰ (getD word i 0)) (sym (letters-same p)) (d .letters i low) in
-      let accepts : Accepts (j .table) word limit =
-      subst (λ (t : Table). Accepts t word limit) (sym (same-table j)) (agree word limit letters .1 (d .accepts)) in
-      let same : v ≡ Yes = verdict-once (j .table) word limit v Yes (j .verdict) accepts in
-      ap (λ (u : Verdict). (verdictNumber u * 1000000 + n) / 1000000) same ∙ yes-shown n (few j)
-  deserved (refused n q) r d =
-      let judgeable : Judgeable (construct p) image word limit marks =
-      record {
-        isImage = isImage;
-        short = d .short;
-        letters = λ i low. subst (List·Memᴰ (getD word i 0)) (sym (letters-same p)) (d .letters i low);
-        low = d .low;
-        room = d .room;
-      } in
-      absurd (first-has (λ m k. ⊥) (reasons image word limit marks) (no-reason image word limit marks judgeable) (r .first))
+    -- a verdict is given exactly where the rule can be asked
+    pub verdict-asked : (result < 4000000) ↔ Asks p word limit marks
+    verdict-asked = (λ low. asked (below-refusals j low), λ a. judged-below j (fits a))
+
+    -- where the rule can be asked, its program accepts what its table does
+    same-accepts : (a : Asks p word limit marks) (M : ℕ) → Accepts (construct p) word M ↔ ProgramAccepts p word M
+    same-accepts a M = agree word M (fits a .letters)
+
+    pub granted : Grants result ↔ Deserves p word limit marks
+    granted = (
+      λ said. let a = verdict-asked .0 (omega (arith, said)) in record {
+        asks = a;
+        accepts = same-accepts a limit .0 (yes-exactly j (fits a) .0 said);
+      },
+      λ d. yes-exactly j (fits (d .asks)) .1 (same-accepts (d .asks) limit .1 (d .accepts)),
+    )
+
+    -- a no, of the program and of the steps of its table
+    pub denied : SaysNo result ↔ (Asks p word limit marks × (¬ ProgramAccepts p word limit) × (¬ Passes (construct p) word limit))
+    denied = (
+      λ said.
+          let a = verdict-asked .0 (omega (arith, said)) in
+          let no = no-exactly j (fits a) .0 said in
+          (a, λ accepts. no .0 (same-accepts a limit .1 accepts), no .1),
+      λ (a, never, calm). no-exactly j (fits a) .1 (λ accepts. never (same-accepts a limit .0 accepts), calm),
+    )
+
+    -- so then the program accepts at no height of the counter
+    pub denied-everywhere : SaysNo result → (M : ℕ) → ¬ ProgramAccepts p word M
+    denied-everywhere said M accepts =
+        let a = verdict-asked .0 (omega (arith, said)) in
+        let no = no-exactly j (fits a) .0 said in
+        no-everywhere (no .0) (no .1) M (same-accepts a M .1 accepts)
+
+    -- the same of a limit that was met
+    pub met : SaysLimitMet result ↔ (Asks p word limit marks × (¬ ProgramAccepts p word limit) × Passes (construct p) word limit)
+    met = (
+      λ said.
+          let a = verdict-asked .0 (omega (arith, said)) in
+          let over = limit-met-exactly j (fits a) .0 said in
+          (a, λ accepts. over .0 (same-accepts a limit .1 accepts), over .1),
+      λ (a, never, passes). limit-met-exactly j (fits a) .1 (λ accepts. never (same-accepts a limit .0 accepts), passes),
+    )
 
 -- a dock that is lent what the office compiled grants exactly what the rule deserves, whatever record, limit and marks it is given
 pub grants-exactly : {text before after word marks marked : List ℕ} {bytes states rows limit result : ℕ}
     (c : Compiled text before after bytes states rows)
     → Judges (take bytes after) word limit marks marked result
     → Grants result ↔ Deserves (c .program) word limit marks
-grants-exactly {marked = marked} c j = (
-  λ grants. granted marked (delivered c) (c .agree) (j .answer) (j .right) (subst Grants (j .number) grants),
-  λ d. subst Grants (sym (j .number)) (deserved marked (delivered c) (c .agree) (j .answer) (j .right) d),
-)
+grants-exactly c j = granted (delivered c) (c .agree) j
+
+-- the first bytes of the buffer that was compiled into, and the program whose table they say
+pub record Delivered (text image : List ℕ) : Type 0 where
+  pub program : Program
+  pub reads : Reads text program
+  pub isImage : IsImage (construct program) image
+  pub agree : Agree program
+
+answer-delivers
+    : {text before after : List ℕ} {n : ℕ} (a : Answer) → Compiles text before after a → n ≡ answerNumber a → n < 1000000
+    → Delivered text (take n after)
+unfolding answerNumber
+answer-delivers {text} {after = after} (Answer.Compiled bytes states rows) c is low = record {
+  program = c .right .program;
+  reads = c .right .compilable .reads;
+  isImage = subst (λ (m : ℕ). IsImage (construct (c .right .program)) (take m after)) (sym is) (delivered (c .right));
+  agree = c .right .agree;
+}
+answer-delivers (Answer.Refused number place) c is low = absurd (omega (arith, refused-bounds (c .right)))
+
+-- an answer of compiling below 1,000,000 is the length of an image of the table of the text's program
+pub delivers : {text before after : List ℕ} {n : ℕ} → CompilesTo text before after n → n < 1000000 → Delivered text (take n after)
+delivers c low = answer-delivers (c .answer) (c .compiles) (c .number) low
+
+-- and of no other program's
+pub delivers-only
+    : {text before after : List ℕ} {n : ℕ} → CompilesTo text before after n → n < 1000000 → {p : Program} → Reads text p
+    → IsImage (construct p) (take n after) × Agree p
+delivers-only {after = after} {n = n} c low reads =
+    let d = delivers c low in
+    subst (λ (q : Program). IsImage (construct q) (take n after) × Agree q) (reads-once (d .reads) reads) (d .isImage, d .agree)
