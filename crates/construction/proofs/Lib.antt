@@ -1,4 +1,6 @@
 -- Laws of the construction: how many states and rows, which ranges they keep, what rows do, that table and program agree, and that compiling has one answer.
+pub mod Answered
+pub mod Against
 pub mod Every
 pub mod Symbols
 pub mod Counts

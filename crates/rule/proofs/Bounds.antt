@@ -17,7 +17,8 @@ use mathlib.Core.List.{
 }
 use lib.ListN.{length}
 use lib.Dec.{leb}
-use Rattle.text.proofs.Tokens.{ends-at, broken-at, tokens-below, below-at}
+use Rattle.text.proofs.Ending.{ends-at, broken-at}
+use Rattle.text.proofs.Tokens.{tokens-below, below-at}
 use Rattle.rule.specs.Tree.{
   Number,
   Letter,

@@ -1,4 +1,6 @@
 -- Laws of the definitions of a rule.
+pub mod Binds
+pub mod Edges
 -- the machine with a stack, and what comes of a text by it
 pub mod Steps
 pub mod Follow

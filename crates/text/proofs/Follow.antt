@@ -12,7 +12,7 @@ use Rattle.text.specs.declared.Token.the-variants as Token
 use Rattle.text.specs.declared.Word.{Word}
 use Rattle.text.specs.declared.Word.the-variants as Word
 use Rattle.text.proofs.Once.{comes}
-use Rattle.text.proofs.Tokens.{EndsAt, ends-from}
+use Rattle.text.proofs.Ending.{EndsAt, ends-from}
 
 -- the tokens from a byte on begin with what is answered there, once it is matched
 pub follows : {text : List ℕ} {p : ℕ} {r s : Token} {ts : List Placed} {e : Ending}

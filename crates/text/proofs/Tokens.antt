@@ -1,15 +1,16 @@
--- The tokens of a text: there are some, `scan` finds them, there are no others, and they end where the text does.
+-- The tokens of a text: there are some, `scan` finds them, there are no others, and each stands before where they end.
 use Prim.Native.Nat.{ℕ, zero, suc, pred, _+_, _<_, zero-le, suc-le-suc}
 use native.Mathlib.Omega.{arith}
 use mathlib.Core.Path.{_≡_, refl, sym, ap, _∙_, subst}
 use mathlib.Core.List.{List, [], _∷_, _++_, cons≢nil}
-use lib.ListN.{length, drop, length-append, length-drop}
+use lib.ListN.{length, drop, length-drop}
 use lib.Seq.{length-take-le}
 use Rattle.text.specs.Token.{Token}
-use Rattle.text.specs.Tokens.{Placed, _at_, Ending, ends, broken, Blank, white, comment, Longest, Tokens, end, blank, token, none, TokensOf}
+use Rattle.text.specs.Tokens.{Placed, _at_, Ending, Blank, white, comment, Tokens, end, blank, token, none, TokensOf}
 use Rattle.text.proofs.Scan.{Lexed, over, skip, found, bad, lex, Scanned, before, step, scanFrom, scan}
 use Rattle.text.proofs.Front.{Found, Stands, lex-right, lex-is, blank-lex, longest-found}
 use Rattle.text.proofs.Reach.{empty-no-token}
+use Rattle.text.proofs.Ending.{blank-length, longest-length}
 
 -- these are the tokens of the bytes from a place on
 abbrev Scans : ℕ → List ℕ → Scanned → Type 0
@@ -56,14 +57,6 @@ pub scan-right : (text : List ℕ) → TokensOf text (scan text .tokens) (scan t
 unfolding scan
 scan-right text = scanFrom-right (suc (length text)) 0 text (omega arith)
 
--- a blank and what follows it make up the bytes
-blank-length : {bytes rest : List ℕ} {n : ℕ} → Blank bytes n rest → length bytes ≡ n + length rest
-blank-length (white t) = omega arith
-blank-length {rest} (comment body e t c) = omega (arith, ap length e, length-append body rest)
-
-longest-length : {bytes lexeme rest : List ℕ} {t : Token} → Longest bytes lexeme rest t → length bytes ≡ length lexeme + length rest
-longest-length {lexeme} {rest} h = ap length (h .begins) ∙ length-append lexeme rest
-
 scan-step : (fuel place : ℕ) (bytes : List ℕ) (x : Lexed)
     → length bytes < fuel
     → lex bytes ≡ x
@@ -100,30 +93,6 @@ pub tokens-once : {place : ℕ} {text : List ℕ} {ts us : List Placed} {e f : E
 tokens-once {text} h g =
     let same = sym (tokens-from (suc (length text)) h (omega arith)) ∙ tokens-from (suc (length text)) g (omega arith) in
     (ap (λ (r : Scanned). r .tokens) same, ap (λ (r : Scanned). r .ending) same)
-
--- where a text of this length may end, or its tokens break off
-abbrev pub EndsAt : Ending → ℕ → Type 0
-EndsAt (ends p) n = p ≡ n
-EndsAt (broken p) n = p < n
-
--- tokens end there, counted from any place
-pub ends-from : {place : ℕ} {bytes : List ℕ} {ts : List Placed} {e : Ending} → Tokens place bytes ts e → EndsAt e (place + length bytes)
-ends-from end = omega arith
-ends-from (blank {p = p} {n = n} {bytes = bytes} {rest = rest} {e = e} b g) =
-    let same : p + n + length rest ≡ p + length bytes = omega (arith, blank-length b) in
-    subst (EndsAt e) same (ends-from g)
-ends-from (token {p = p} {bytes = bytes} {lexeme = lexeme} {rest = rest} {e = e} l g) =
-    let same : p + length lexeme + length rest ≡ p + length bytes = omega (arith, longest-length l) in
-    subst (EndsAt e) same (ends-from g)
-ends-from (none x y) = omega arith
-
--- tokens that end with the text end at its length
-pub ends-at : {text : List ℕ} {ts : List Placed} {p : ℕ} → TokensOf text ts (ends p) → p ≡ length text
-ends-at h = omega (arith, ends-from h)
-
--- tokens that break off do so at a byte of the text
-pub broken-at : {text : List ℕ} {ts : List Placed} {p : ℕ} → TokensOf text ts (broken p) → p < length text
-broken-at h = omega (arith, ends-from h)
 
 -- each of these tokens starts before this place
 abbrev pub Below : ℕ → List Placed → Type 0
