@@ -15,7 +15,7 @@ use Rattle.table.specs.WellFormed.{SymbolCode, RowInRange, InRange, IsImage}
 use Rattle.table.specs.Fields.{lettersOf, letterOf, rowOf, rowCount, tableOf, Tells, HeadRight, MiddleRight, TailRight, LetterRight}
 use Rattle.table.specs.RowCode.{rowIs}
 use Rattle.table.specs.declared.Row as Code
-use Rattle.checker.proofs.Telling.{tells-as}
+use Rattle.table.proofs.Telling.{tells-as}
 use Rattle.table.proofs.Reading.{alphabet-length, part-bytes, accept-past}
 use Rattle.checker.proofs.Framing.{framed-image}
 use Rattle.table.proofs.Encoded.{image-table, image-tail}

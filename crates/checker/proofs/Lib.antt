@@ -1,5 +1,4 @@
 -- Bytes are a well-formed image exactly if each part of them is right; laws of checking.
-pub mod Telling
 pub mod Cut
 pub mod Framing
 pub mod Different

@@ -38,6 +38,11 @@ module _ {image word : List ℕ} {limit : ℕ} {before after : List ℕ} where
 pub judgeable-undecided
     : {image word : List ℕ} {limit : ℕ} {before : List ℕ} → Judgeable (tableOf image) image word limit before → Undecided image word limit before
 judgeable-undecided j = record {
-  ready = record { range = j .isImage .inRange; long = omega (arith, image-tail (j .isImage) .end); short = j .short; low = j .low };
+  ready = record {
+    range = j .admitted .isImage .inRange;
+    long = omega (arith, image-tail (j .admitted .isImage) .end);
+    short = j .admitted .short;
+    low = j .admitted .low;
+  };
   room = j .room;
 }

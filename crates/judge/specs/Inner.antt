@@ -1,8 +1,9 @@
 -- What the judge's own functions promise one another.
 use Prim.Native.Nat.{ℕ, _+_, _*_, _/_, _%_, _≤_, _<_}
 use mathlib.Core.Path.{_≡_}
+use mathlib.Core.Logic.{_≢_}
 use mathlib.Core.Bool.{Bool, true, false, _&&_}
-use mathlib.Core.List.{List, List·Memᴰ}
+use mathlib.Core.List.{List}
 use lib.ListN.{length, getD}
 use lib.Dec.{eqb}
 use Rattle.bits.specs.Bit.{bit}
@@ -117,11 +118,10 @@ pub record Decided (image w : List ℕ) (L : ℕ) (m : List ℕ) (r : ℕ) : Typ
   pub marks : Marks (tableOf image) w L m
   pub number : r ≡ verdictNumber verdict * 1000000 + many
 
--- the index of the first byte that is no letter, or the word's length
-pub record FirstOther (image w : List ℕ) (r : ℕ) : Type 0 where
-  pub high : r ≤ length w
-  pub before : (i : ℕ) → i < r → List·Memᴰ (getD w i 0) (tableOf image .alphabet)
-  pub outside : r < length w → ¬ List·Memᴰ (getD w r 0) (tableOf image .alphabet)
+-- number 25, or 0 for a mark buffer of the right length
+pub record RoomRefusing (m : List ℕ) (r : ℕ) : Type 0 where
+  pub none : r ≡ 0 → length m ≡ markBytes
+  pub some : ¬ (r ≡ 0) → (r ≡ refusal 25 0) × (length m ≢ markBytes)
 
 -- a refusal as one number
 pub record RefusedAs (image w : List ℕ) (limit : ℕ) (m : List ℕ) (r : ℕ) : Type 0 where

@@ -3,64 +3,31 @@ mod pending;
 mod search;
 
 use pending::first_set;
+use refusing::Asked;
 ghost use mathlib.Core.Path.{_≡_};
-ghost use mathlib.Core.List.{List·Memᴰ};
-ghost use Prim.Native.Nat.{_+_, _<_};
+ghost use Prim.Native.Nat.{_<_};
 ghost use lib.ListN.{length};
-ghost use Rattle.table.specs.Fields.{lettersOf, tableOf, Tells};
+ghost use Rattle.table.specs.Fields.{Tells};
 ghost use Rattle.judgement.specs.Marks.{markBytes};
 ghost use Rattle.judgement.specs.Verdict.{verdictNumber};
 ghost use Rattle.judgement.specs.Judge.{Judges};
-ghost use Rattle.judge.specs.Inner.{AcceptsIn, verdictOf, Undecided, Decided, FirstOther, Refusing};
+ghost use Rattle.judge.specs.Inner.{AcceptsIn, verdictOf, Undecided, Decided, RoomRefusing, Refusing};
 ghost use Rattle.judge.specs.Search.{MarkedAccepts};
-
-// Whether a byte is a letter of the alphabet.
-fn is_letter(image: &[u8], b: u8) -> bool
-    requires { ⌜ length (tableOf (now image) .alphabet) ≡ lettersOf (now image) ⌝ }
-    ensures { λ r. ⌜ Tells r (List·Memᴰ b (tableOf (now (image .entry)) .alphabet)) ⌝ }
-{
-    let many = table::letter_count(image);
-    for c in 0..many {
-        if table::letter_at(image, c) == b {
-            return true;
-        }
-    }
-    false
-}
-
-// The index of the first byte of the word that is no letter, or the word's length.
-fn outside(image: &[u8], word: &[u8]) -> usize
-    requires { ⌜ length (tableOf (now image) .alphabet) ≡ lettersOf (now image) ⌝ }
-    ensures { λ r. ⌜ FirstOther (now (image .entry)) (now (word .entry)) r ⌝ }
-{
-    let mut i = 0;
-    while i < word.len() {
-        if is_letter(image, word[i]) {
-            i += 1;
-        } else {
-            return i;
-        }
-    }
-    i
-}
 
 // The refusal, or 0 for what is judged.
 fn refused(image: &[u8], word: &[u8], limit: u64, marks: &[u8]) -> u64
     ensures { λ r. ⌜ Refusing (now (image .entry)) (now (word .entry)) limit (now (marks .entry)) r ⌝ }
 {
-    if checker::check(image) != 1 {
-        return 21000000;
+    match refusing::first_reason(image, word, limit) {
+        Asked::Refused { number, place } => number * 1000000 + place,
+        Asked::Admitted => room_refused(marks),
     }
-    if 62 < word.len() {
-        return 22000000;
-    }
-    let at = outside(image, word);
-    if at < word.len() {
-        return 23000000 + at as u64;
-    }
-    if 31 < limit {
-        return 24000000;
-    }
+}
+
+// The refusal of a mark buffer, or 0 for one that has the right length.
+fn room_refused(marks: &[u8]) -> u64
+    ensures { λ r. ⌜ RoomRefusing (now (marks .entry)) r ⌝ }
+{
     if marks.len() != 65536 {
         return 25000000;
     }

@@ -49,4 +49,4 @@ pub count-is-ones
 count-is-ones j low =
     let g = below-refusals j low in
     let fit = g .judged .judgeable in
-    rw (g .counts) (reached-ones (fit .isImage .inRange) (fit .short) (fit .low) (g .judged .marks) (g .judged .count))
+    rw (g .counts) (reached-ones (fit .admitted .isImage .inRange) (fit .admitted .short) (fit .admitted .low) (g .judged .marks) (g .judged .count))

@@ -3,56 +3,38 @@ use Prim.Native.Nat.{ℕ, _/_, _%_, _≤_, _<_}
 use native.Mathlib.Nat.{le-refl, add-le-add, mul-le-mul}
 use native.Mathlib.Omega.{arith}
 use mathlib.Core.Path.{_≡_, refl, sym, ap, ap₂, _∙_, subst}
-use mathlib.Core.Logic.{inl, inr}
-use mathlib.Core.List.{List, List·Memᴰ}
-use lib.ListN.{length, drop}
+use mathlib.Core.Logic.{_⊎_, inl, inr}
+use mathlib.Core.List.{List}
 use Rattle.bits.specs.Size.{Size}
 use Rattle.bits.proofs.Size.{size-once}
 use Rattle.table.specs.Table.{Table}
 use Rattle.table.specs.WellFormed.{IsImage}
 use Rattle.table.specs.Refusal.{First}
 use Rattle.table.proofs.Image.{table-once}
-use Rattle.table.proofs.Refusal.{Single, Gives, Each, single-because, single-at-zero, first-once, first-has}
+use Rattle.table.proofs.Refusal.{Single, Gives, Each, None, single-at-zero, first-once, first-has, first-none, each-append, first-split}
 use Rattle.machine.specs.Run.{Reach, Accepts}
 use Rattle.machine.proofs.Run.{no-everywhere}
 use Rattle.judgement.specs.Verdict.{Verdict, Yes, No, verdictNumber, IsVerdict}
 use Rattle.judgement.specs.Marks.{Marks}
-use Rattle.judgement.specs.Judge.{FirstOutside, reasons, Judgeable, Answer, judged, refused, answerNumber, Judged, Refused, AnswerRight, Judges}
+use Rattle.judgement.specs.Reasons.{inputReasons}
+use Rattle.judgement.specs.Judge.{marksReason, reasons, Judgeable, Answer, judged, refused, answerNumber, Judged, Refused, AnswerRight, Judges}
 use Rattle.judgement.proofs.Verdict.{verdict-once, verdict-never-zero, verdict-low, verdict-number-once, count-at-most}
 use Rattle.judgement.proofs.Marks.{marks-once}
+use Rattle.judgement.proofs.Reasons.{input-single, input-none, input-place}
 
--- a letter of the one table of an image is a letter of the other
-pub same-letters
-    : {image : List ℕ} {t u : Table} {x : ℕ} → IsImage t image → IsImage u image → List·Memᴰ x (t .alphabet) → List·Memᴰ x (u .alphabet)
-same-letters {x = x} a b = subst (λ (t : Table). List·Memᴰ x (t .alphabet)) (table-once a b)
+module _ (image word : List ℕ) (limit : ℕ) (before : List ℕ) where
+  -- each reason to refuse gives at most one number and place
+  pub reasons-single : Each Single (reasons image word limit before)
+  reasons-single = each-append Single (inputReasons image word limit) (marksReason before) (input-single image word limit) (single-at-zero, tt)
 
--- the first byte that is no letter does not stand before another first one
-not-before : {image word : List ℕ} {p q : ℕ} → FirstOutside image word p → FirstOutside image word q → ¬ (p < q)
-not-before {p = p} a b before = a .outside (same-letters (b .isImage) (a .isImage) (b .before p before))
+  -- what is to be judged has no reason to be refused
+  pub no-reason : {t : Table} → Judgeable t image word limit before → None (reasons image word limit before)
+  no-reason j =
+      each-append (Gives (λ n p. ⊥)) (inputReasons image word limit) (marksReason before) (input-none image word limit (j .admitted)) (λ n p r. r .1 .1 (j .room), tt)
 
--- the first byte that is no letter stands at one index
-first-outside-once : {image word : List ℕ} {p q : ℕ} → FirstOutside image word p → FirstOutside image word q → p ≡ q
-first-outside-once a b = omega (arith, not-before a b, not-before b a)
-
--- each reason to refuse gives at most one number and place
-reasons-single : (image word : List ℕ) (limit : ℕ) (before : List ℕ) → Each Single (reasons image word limit before)
-reasons-single image word limit before =
-    (single-at-zero, (single-at-zero, (single-because (λ p q. first-outside-once), (single-at-zero, (single-at-zero, tt)))))
-
--- where every byte of a word is a letter, none is the first that is not
-all-letters : {t : Table} {image word marks : List ℕ} {limit p : ℕ} → Judgeable t image word limit marks → ¬ FirstOutside image word p
-all-letters {p = p} j f = f .outside (same-letters (j .isImage) (f .isImage) (j .letters p (f .inside)))
-
--- what is to be judged has no reason to be refused
-pub no-reason
-    : (image word : List ℕ) (limit : ℕ) (before : List ℕ) {t : Table} → Judgeable t image word limit before
-    → Each (Gives (λ n p. ⊥)) (reasons image word limit before)
-no-reason image word limit before {t} j =
-    (λ n p r. r .1 .1 (t, j .isImage), (λ n p r. omega arith, (λ n p r. all-letters j (r .1), (λ n p r. omega arith, (λ n p r. r .1 .1 (j .room), tt)))))
-
--- every reason to refuse gives a number from 21 on
-pub reasons-numbered : (image word : List ℕ) (limit : ℕ) (before : List ℕ) → Each (Gives (λ n p. 21 ≤ n)) (reasons image word limit before)
-reasons-numbered image word limit before = omega arith
+  -- every reason to refuse gives a number from 21 on
+  pub reasons-numbered : Each (Gives (λ n p. 21 ≤ n)) (reasons image word limit before)
+  reasons-numbered = omega arith
 
 module _ {image word : List ℕ} {limit : ℕ} {before after after′ : List ℕ} where
   -- two refusals give the same number and place and leave the same marks
@@ -73,11 +55,11 @@ module _ {image word : List ℕ} {limit : ℕ} {before after after′ : List ℕ
       other : IsVerdict (a .table) word limit v′ × Size (Reach (a .table) word limit) c′ × Marks (a .table) word limit after′
       other =
           subst (λ (t : Table). IsVerdict t word limit v′ × Size (Reach t word limit) c′ × Marks t word limit after′)
-          (table-once (b .judgeable .isImage) (a .judgeable .isImage)) (b .verdict, b .count, b .marks)
+          (table-once (b .judgeable .admitted .isImage) (a .judgeable .admitted .isImage)) (b .verdict, b .count, b .marks)
 
   -- what is judged is not refused
   never-both : {v : Verdict} {c n p : ℕ} → Judged image word limit before after v c → ¬ Refused image word limit before after′ n p
-  never-both a b = first-has (λ n p. ⊥) (reasons image word limit before) (no-reason image word limit before (a .judgeable)) (b .first)
+  never-both a b = first-none _ _ (reasons image word limit before) (no-reason image word limit before (a .judgeable)) (b .first)
 
 -- two right answers are equal, and the marks after them too
 answer-once
@@ -116,7 +98,7 @@ pub no-at-every-height
     : {image word : List ℕ} {limit : ℕ} {before after : List ℕ} {count : ℕ} → Judged image word limit before after No count
     → {t : Table} → IsImage t image → (M : ℕ) → ¬ Accepts t word M
 no-at-every-height {word = word} a is M =
-    subst (λ (t : Table). ¬ Accepts t word M) (table-once (a .judgeable .isImage) is) (no-everywhere (a .verdict .0) (a .verdict .1) M)
+    subst (λ (t : Table). ¬ Accepts t word M) (table-once (a .judgeable .admitted .isImage) is) (no-everywhere (a .verdict .0) (a .verdict .1) M)
 
 -- the count of what is judged is below a million
 pub count-small
@@ -125,8 +107,8 @@ count-small a =
     let j = a .judgeable in
     omega (
       arith,
-      count-at-most (j .isImage .inRange) (a .count),
-      mul-le-mul (mul-le-mul (j .isImage .inRange .fewStates) (add-le-add (j .short) (le-refl 2))) (add-le-add (j .low) (le-refl 1)),
+      count-at-most (j .admitted .isImage .inRange) (a .count),
+      mul-le-mul (mul-le-mul (j .admitted .isImage .inRange .fewStates) (add-le-add (j .admitted .short) (le-refl 2))) (add-le-add (j .admitted .low) (le-refl 1)),
     )
 
 -- so the last six digits of the answer's number are the count, and the verdict stands before them
@@ -157,27 +139,20 @@ module _ {image word : List ℕ} {limit : ℕ} {before after : List ℕ} {r : �
   pub says-yes : r / 1000000 ≡ verdictNumber Yes → {t : Table} → IsImage t image → Accepts t word limit
   says-yes said is =
       let a = answer-says image word limit before after Yes (j .answer) (j .right) (rw (← (j .number)) said) .1 in
-      subst (λ (t : Table). Accepts t word limit) (table-once (a .judgeable .isImage) is) (a .verdict)
+      subst (λ (t : Table). Accepts t word limit) (table-once (a .judgeable .admitted .isImage) is) (a .verdict)
 
   -- and where it says no, none accepts, however high the counter may go
   pub says-no : r / 1000000 ≡ verdictNumber No → {t : Table} → IsImage t image → (M : ℕ) → ¬ Accepts t word M
   says-no said = no-at-every-height (answer-says image word limit before after No (j .answer) (j .right) (rw (← (j .number)) said) .1)
 
--- a place of a word that is not too long is below a million
-later-places
-    : (image word : List ℕ) (limit : ℕ) (before : List ℕ) → ¬ (62 < length word)
-    → Each (Gives (λ n p. p < 1000000)) (drop 2 (reasons image word limit before))
-later-places image word limit before short =
-    (λ n p r. omega (arith, r .1 .inside), (λ n p r. omega (arith, r .1 .0), (λ n p r. omega (arith, r .1 .0), tt)))
-
-first-place
-    : (image word : List ℕ) (limit : ℕ) (before : List ℕ) (n p : ℕ) → First (reasons image word limit before) n p → p < 1000000
-unfolding First
-first-place image word limit before n p (inl r) = omega (arith, r .1 .0)
-first-place image word limit before n p (inr (well, inl r)) = omega (arith, r .1 .0)
-first-place image word limit before n p (inr (well, inr (short, later))) =
-    first-has (λ n p. p < 1000000) (drop 2 (reasons image word limit before))
-    (later-places image word limit before (λ long. short 22 0 (refl, (refl, long)))) later
+-- a place is below a million
+first-place : (image word : List ℕ) (limit : ℕ) (before : List ℕ) (n p : ℕ) → First (reasons image word limit before) n p → p < 1000000
+first-place image word limit before n p first = go (first-split n p (inputReasons image word limit) (marksReason before) first)
+  where
+    go : First (inputReasons image word limit) n p ⊎ (None (inputReasons image word limit) × First (marksReason before) n p)
+        → p < 1000000
+    go (inl front) = omega (arith, input-place image word limit n p front)
+    go (inr (_, last)) = first-has (λ n p. p < 1000000) (marksReason before) (λ n p r. omega (arith, r .1 .0), tt) last
 
 -- so the number of a refusal tells its own number and its place
 pub refused-bounds

@@ -2,6 +2,7 @@
 pub mod Number
 pub mod Verdict
 pub mod Marks
+pub mod Reasons
 pub mod Judges
 pub mod Says
 pub mod Counted

@@ -64,7 +64,7 @@ module _ {image word : List ℕ} {limit : ℕ} {before after : List ℕ} {r : �
 
     is-given : IsVerdict t word limit (given .verdict)
     is-given =
-        subst (λ (u : Table). IsVerdict u word limit (given .verdict)) (table-once (given .judged .judgeable .isImage) (fit .isImage))
+        subst (λ (u : Table). IsVerdict u word limit (given .verdict)) (table-once (given .judged .judgeable .admitted .isImage) (fit .admitted .isImage))
         (given .judged .verdict)
 
     -- the judge's number begins with a verdict's exactly where that is the verdict
@@ -120,7 +120,7 @@ relent image word limit before before′ after same (judged v c) right number =
         answer = judged v c;
         right = record {
           table = right .table;
-          judgeable = record { isImage = fit .isImage; short = fit .short; letters = fit .letters; low = fit .low; room = sym same ∙ fit .room };
+          judgeable = record { admitted = fit .admitted; room = sym same ∙ fit .room };
           verdict = right .verdict;
           count = right .count;
           marks = right .marks;

@@ -1,41 +1,28 @@
 -- What judging promises, for every image, word, limit and mark buffer.
-use Prim.Native.Nat.{ℕ, _+_, _*_, _≤_, _<_}
+use Prim.Native.Nat.{ℕ, _+_, _*_}
 use mathlib.Core.Path.{_≡_}
 use mathlib.Core.Logic.{_≢_}
-use mathlib.Core.List.{List, [], _∷_, List·Memᴰ}
-use lib.ListN.{length, getD}
+use mathlib.Core.List.{List, [], _∷_, _++_}
+use lib.ListN.{length}
 use Rattle.bits.specs.Size.{Size}
 use Rattle.table.specs.Table.{Table}
-use Rattle.table.specs.WellFormed.{IsImage, WellFormed}
-use Rattle.table.specs.Refusal.{Reason, because, atZero, First, refusal}
+use Rattle.table.specs.Refusal.{Reason, atZero, First, refusal}
 use Rattle.machine.specs.Run.{Reach}
 use Rattle.judgement.specs.Verdict.{Verdict, verdictNumber, IsVerdict}
 use Rattle.judgement.specs.Marks.{markBytes, Marks}
+use Rattle.judgement.specs.Reasons.{inputReasons, Admitted}
 
--- the first byte of the word that is no letter of the image's table stands at this index
-pub record FirstOutside (image word : List ℕ) (index : ℕ) : Type 0 where
-  pub table : Table
-  pub isImage : IsImage table image
-  pub inside : index < length word
-  pub outside : ¬ List·Memᴰ (getD word index 0) (table .alphabet)
-  pub before : (i : ℕ) → i < index → List·Memᴰ (getD word i 0) (table .alphabet)
+-- 25
+abbrev pub marksReason : List ℕ → List {1} Reason
+marksReason marks = atZero 25 (length marks ≢ markBytes) ∷ []
 
 -- the reasons to refuse, in number order
 abbrev pub reasons : List ℕ → List ℕ → ℕ → List ℕ → List {1} Reason
-reasons image word limit marks =
-    atZero 21 (¬ WellFormed image)
-    ∷ atZero 22 (62 < length word)
-    ∷ because 23 (FirstOutside image word)
-    ∷ atZero 24 (31 < limit)
-    ∷ atZero 25 (length marks ≢ markBytes)
-    ∷ []
+reasons image word limit marks = inputReasons image word limit ++ marksReason marks
 
 -- what is judged: a well-formed table, a word of up to 62 of its letters, a limit 0 to 31 and 65,536 mark bytes
 pub record Judgeable (t : Table) (image word : List ℕ) (limit : ℕ) (marks : List ℕ) : Type 0 where
-  pub isImage : IsImage t image
-  pub short : length word ≤ 62
-  pub letters : (i : ℕ) → i < length word → List·Memᴰ (getD word i 0) (t .alphabet)
-  pub low : limit ≤ 31
+  pub admitted : Admitted t image word limit
   pub room : length marks ≡ markBytes
 
 pub data Answer : Type 0 where

@@ -63,7 +63,7 @@ longer-alike : (short long word before after : List ℕ) (limit : ℕ) (answer :
     → Judge.AnswerRight short word limit before after answer
     → Judge.AnswerRight long word limit before after answer
 longer-alike short long word before after limit (Judge.judged v count) s l j =
-    absurd (omega (arith, image-short (j .table, j .judgeable .isImage)))
+    absurd (omega (arith, image-short (j .table, j .judgeable .admitted .isImage)))
 longer-alike short long word before after limit (Judge.refused n p) s l j =
     record { first = first-longer short long word before limit s l n p (j .first); unchanged = j .unchanged }
 

@@ -7,3 +7,4 @@ pub mod Places
 pub mod Reading
 pub mod Refusal
 pub mod RowCode
+pub mod Telling

@@ -1,8 +1,8 @@
 -- A refusal is one: of reasons that give at most one number and place each, the first that holds gives one number and place.
 use Prim.Native.Nat.{ℕ}
 use mathlib.Core.Path.{_≡_, sym, _∙_}
-use mathlib.Core.Logic.{inl, inr}
-use mathlib.Core.List.{List, [], _∷_}
+use mathlib.Core.Logic.{_⊎_, inl, inr}
+use mathlib.Core.List.{List, [], _∷_, _++_}
 use Rattle.table.specs.Refusal.{Reason, because, atZero, First}
 
 -- a reason gives at most one number and place
@@ -43,3 +43,40 @@ pub first-has : (Q : ℕ → ℕ → Type 0) {n p : ℕ} (rs : List Reason) → 
 unfolding First
 first-has Q (r ∷ rs) each (inl a) = each .0 _ _ a
 first-has Q (r ∷ rs) each (inr a) = first-has Q rs (each .1) (a .1)
+
+-- no reason of the list gives any number and place
+abbrev pub None : List Reason → Type 0
+None = Each (Gives (λ n p. ⊥))
+
+-- where none holds, there is no first
+pub first-none : (n p : ℕ) (rs : List Reason) → None rs → ¬ First rs n p
+first-none n p rs none = first-has (λ n p. ⊥) rs none
+
+-- A list of reasons may go on with another.
+
+pub each-append : (P : Reason → Type 0) (rs qs : List Reason) → Each P rs → Each P qs → Each P (rs ++ qs)
+each-append P [] qs front behind = behind
+each-append P (r ∷ rs) qs front behind = (front .0, each-append P rs qs (front .1) behind)
+
+-- a first reason of the front is the first of both
+pub first-front : (n p : ℕ) (rs qs : List Reason) → First rs n p → First (rs ++ qs) n p
+unfolding First
+first-front n p (r ∷ rs) qs (inl a) = inl a
+first-front n p (r ∷ rs) qs (inr a) = inr (a .0, first-front n p rs qs (a .1))
+
+-- and where none of the front holds, the first behind it
+pub first-behind : (n p : ℕ) (rs qs : List Reason) → None rs → First qs n p → First (rs ++ qs) n p
+unfolding First
+first-behind n p [] qs none first = first
+first-behind n p (r ∷ rs) qs none first = inr (none .0, first-behind n p rs qs (none .1) first)
+
+-- the first of both is one of the two
+pub first-split : (n p : ℕ) (rs qs : List Reason) → First (rs ++ qs) n p → First rs n p ⊎ (None rs × First qs n p)
+unfolding First
+first-split n p [] qs first = inr (tt, first)
+first-split n p (r ∷ rs) qs (inl a) = inl (inl a)
+first-split n p (r ∷ rs) qs (inr a) = go (first-split n p rs qs (a .1))
+  where
+    go : First rs n p ⊎ (None rs × First qs n p) → First (r ∷ rs) n p ⊎ (None (r ∷ rs) × First qs n p)
+    go (inl front) = inl (inr (a .0, front))
+    go (inr behind) = inr ((a .0, behind .0), behind .1)

@@ -52,24 +52,26 @@ module _
     -- what the rule can be asked is judged
     fits : Asks p word limit marks → Judgeable (construct p) image word limit marks
     fits a = record {
-      isImage = isImage;
-      short = a .short;
-      letters = λ i low. subst (List·Memᴰ (getD word i 0)) (sym (letters-same p)) (a .letters i low);
-      low = a .low;
+      admitted = record {
+        isImage = isImage;
+        short = a .short;
+        letters = λ i low. subst (List·Memᴰ (getD word i 0)) (sym (letters-same p)) (a .letters i low);
+        low = a .low;
+      };
       room = a .room;
     }
 
     -- and nothing else is
     asked : Given image word limit marks marked result → Asks p word limit marks
     asked g =
-        let fit = g .judged .judgeable in
+        let fit = g .judged .judgeable .admitted in
         let same : g .judged .table .alphabet ≡ letterBytes (p .alphabet) =
         ap (λ (t : Table). t .alphabet) (table-once (fit .isImage) isImage) ∙ letters-same p in
         record {
           short = fit .short;
           letters = λ i low. subst (List·Memᴰ (getD word i 0)) same (fit .letters i low);
           low = fit .low;
-          room = fit .room;
+          room = g .judged .judgeable .room;
         }
 
     -- a verdict is given exactly where the rule can be asked
@@ -78,7 +80,7 @@ module _
 
     -- where the rule can be asked, its program accepts what its table does
     same-accepts : (a : Asks p word limit marks) (M : ℕ) → Accepts (construct p) word M ↔ ProgramAccepts p word M
-    same-accepts a M = agree word M (fits a .letters)
+    same-accepts a M = agree word M (fits a .admitted .letters)
 
     pub granted : Grants result ↔ Deserves p word limit marks
     granted = (

@@ -3,7 +3,9 @@ use borrow.Author.Count.{below-none, below-more}
 use Prim.Native.Nat.{ℕ, _≤_, _<_, _-_}
 use native.Mathlib.Omega.{arith}
 use Rattle.judge.specs.Inner.{AcceptsIn}
-use Rattle.judge.proofs.Answers.{tells-yes, tells-no, accepted-in, accepted-nowhere}
+use mathlib.Core.Path.{refl}
+use Rattle.table.proofs.Telling.{tells-yes, tells-no}
+use Rattle.judge.proofs.Answers.{accepted-in, accepted-nowhere}
 use Rattle.judge.proofs.accepted.Statement.{statement}
 use Rattle.judge.proofs.accepted.Tie as tie
 
@@ -20,7 +22,7 @@ accepts-in-requires : tie.Need-accepts-in-requires Inv-loop μ-loop
 accepts-in-requires c κs = (c .loop-test .taken, c .before .before .before .before .pre)
 
 returns : tie.Need-returns Inv-loop μ-loop
-returns c = tells-yes (accepted-in (c .before .accepts-in .ensures .holds (c .if1 .taken)))
+returns c = tells-yes refl (accepted-in (c .before .accepts-in .ensures .holds (c .if1 .taken)))
 
 add-state : tie.Need-add-state Inv-loop μ-loop
 add-state c = omega arith
@@ -32,7 +34,7 @@ loop-again : tie.Need-loop-again Inv-loop μ-loop
 loop-again c = (omega arith, below-more _ _ (c .before .before .before .loop .inv .1) (c .before .accepts-in .ensures .fails (c .if1 .left)))
 
 returns-2 : tie.Need-returns-2 Inv-loop μ-loop
-returns-2 c = tells-no (accepted-nowhere _ (omega arith) (c .before .loop .inv .1))
+returns-2 c = tells-no refl (accepted-nowhere _ (omega arith) (c .before .loop .inv .1))
 
 pub accepted-spec : {M : Type 1} → statement M
 accepted-spec =

@@ -2,7 +2,7 @@
 use Prim.Native.Nat.{ℕ, _+_, _*_}
 use borrow.Author.Tests.{ne-eqb, eqb-true, eqb-false}
 use mathlib.Core.Path.{sym, ap₂, _∙_}
-use Rattle.checker.proofs.Telling.{tells-no}
+use Rattle.table.proofs.Telling.{tells-no}
 use borrow.Author.Needs.{needs}
 use Rattle.checker.proofs.form.field_at.Statement.{statement}
 use Rattle.checker.proofs.form.field_at.Tie as tie

@@ -2,7 +2,7 @@
 use native.Mathlib.Omega.{arith}
 use borrow.Author.Tests.{eqb-true, eqb-false}
 use mathlib.Core.Path.{refl}
-use Rattle.checker.proofs.Telling.{refuted, kept, tells-no}
+use Rattle.table.proofs.Telling.{refuted, kept, tells-no}
 use borrow.Author.Needs.{needs}
 use Rattle.checker.proofs.form.tail_right.Statement.{statement}
 use Rattle.checker.proofs.form.tail_right.Tie as tie

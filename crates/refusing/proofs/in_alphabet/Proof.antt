@@ -1,13 +1,14 @@
--- `judge::is_letter` meets its contract. The loop's invariant: no letter passed is the byte.
+-- `refusing::in_alphabet` meets its contract. The loop's invariant: no letter passed is the byte.
 use borrow.Author.Needs.{needs}
 use borrow.Author.Count.{below-none, below-more}
 use Prim.Native.Nat.{ℕ, _≤_, _<_, _-_}
 use native.Mathlib.Omega.{arith}
-use mathlib.Core.Path.{_≡_, _∙_}
+use mathlib.Core.Path.{_≡_, refl, _∙_}
 use Rattle.table.specs.Fields.{letterOf}
-use Rattle.judge.proofs.Answers.{tells-yes, tells-no, letter-found, letter-nowhere}
-use Rattle.judge.proofs.is_letter.Statement.{statement}
-use Rattle.judge.proofs.is_letter.Tie as tie
+use Rattle.table.proofs.Telling.{tells-yes, tells-no}
+use Rattle.refusing.proofs.Letters.{letter-found, letter-nowhere}
+use Rattle.refusing.proofs.in_alphabet.Statement.{statement}
+use Rattle.refusing.proofs.in_alphabet.Tie as tie
 
 abbrev Inv-loop : tie.InvT-loop
 Inv-loop image b many c₀ c = (c ≤ many) × ((k : ℕ) → k < c → ¬ (letterOf image k ≡ b))
@@ -27,7 +28,7 @@ letter-at-requires c κs = search needs
 returns : tie.Need-returns Inv-loop μ-loop
 returns c =
     let l = c .before .before .before .before in
-    tells-yes (letter-found _ _ (l .before .before .pre) _ _ (omega (arith, c .before .before .loop-test .taken, l .letter-count .ensures)) (c .before .letter-at .ensures) (c .if1 .taken))
+    tells-yes refl (letter-found _ _ (l .before .before .pre) _ _ (omega (arith, c .before .before .loop-test .taken, l .letter-count .ensures)) (c .before .letter-at .ensures) (c .if1 .taken))
 
 add-c : tie.Need-add-c Inv-loop μ-loop
 add-c c = omega arith
@@ -41,10 +42,10 @@ loop-again c =
 
 returns-2 : tie.Need-returns-2 Inv-loop μ-loop
 returns-2 c =
-    tells-no (letter-nowhere _ _ (c .before .before .before .before .pre) _ (omega (arith, c .before .before .letter-count .ensures)) (c .before .loop .inv .1))
+    tells-no refl (letter-nowhere _ _ (c .before .before .before .before .pre) _ (omega (arith, c .before .before .letter-count .ensures)) (c .before .loop .inv .1))
 
-pub is-letter-spec : {M : Type 1} → statement M
-is-letter-spec =
+pub in-alphabet-spec : {M : Type 1} → statement M
+in-alphabet-spec =
     tie.close
     (tie.spec
     Inv-loop
