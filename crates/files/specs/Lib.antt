@@ -1,2 +1,4 @@
--- What reading answers.
-pub mod Within
+-- What reading answers, the names of a file that is saved, and where it may stand.
+pub mod Reading
+pub mod Names
+pub mod Seen
