@@ -24,13 +24,20 @@ fn saved(image: &[u8]) -> bool {
         os::fail(b"compile: the name of the image's file");
         return false;
     }
-    files::save(&path[..n], image)
+    files::save(&path[..n], image, STDIN_FILENO)
+}
+
+// A line that cannot be written is said on standard error: no line never means that all is well.
+fn shown(line: &[u8]) {
+    if !io::write_all(STDOUT_FILENO, line) {
+        os::fail(b"compile: standard output");
+    }
 }
 
 fn print(answer: Answer) {
     let mut text = [0u8; 66];
     let n = line::compile_line(answer, &mut text);
-    io::write_all(STDOUT_FILENO, &text[..n]);
+    shown(&text[..n]);
 }
 
 // The file is written before the line, so that `ok` says that it is there.

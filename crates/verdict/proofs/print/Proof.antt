@@ -10,11 +10,11 @@ verdict-line-requires c κs = search needs
 array-share-prefix-text : tie.Need-array-share-prefix-text
 array-share-prefix-text c = stands-counts (c .verdict-line .ensures) .0
 
-slice-aggregate-write-all : tie.Need-slice-aggregate-write-all
-slice-aggregate-write-all c = stands-counts (c .before .verdict-line .ensures) .1
+slice-aggregate-shown : tie.Need-slice-aggregate-shown
+slice-aggregate-shown c = stands-counts (c .before .verdict-line .ensures) .1
 
-write-all-requires : tie.Need-write-all-requires
-write-all-requires c κs = search needs
+shown-requires : tie.Need-shown-requires
+shown-requires c κs = search needs
 
 returns : tie.Need-returns
 returns c = search needs
@@ -25,6 +25,6 @@ print-spec =
     (tie.spec
     verdict-line-requires
     array-share-prefix-text
-    slice-aggregate-write-all
-    write-all-requires
+    slice-aggregate-shown
+    shown-requires
     returns)
