@@ -24,7 +24,7 @@ fn saved(image: &[u8]) -> bool {
         os::fail(b"compile: the name of the image's file");
         return false;
     }
-    files::save(&path[..n], image, STDIN_FILENO)
+    saving::save(&path[..n], image, STDIN_FILENO)
 }
 
 // A line that cannot be written is said on standard error: no line never means that all is well.

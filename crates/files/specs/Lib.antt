@@ -1,4 +1,2 @@
--- What reading answers, the names of a file that is saved, and where it may stand.
+-- What reading answers.
 pub mod Reading
-pub mod Names
-pub mod Seen

@@ -1,9 +1,4 @@
-// Files for programs: reading all of one, or of standard input, into a buffer, so that a failed read is never taken for an
-// end; and writing one whole, so that no half file is left under its name and nothing else is lost.
-mod saving;
-mod seen;
-
-pub use saving::save;
+// Files for programs: reading all of one, or of standard input, into a buffer, so that a failed read is never taken for an end.
 ghost use Prim.Native.Nat.{_-_, _≤_, min};
 ghost use mathlib.Core.Path.{_≡_};
 ghost use lib.ListN.{length};

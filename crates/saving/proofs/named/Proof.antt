@@ -3,8 +3,8 @@ use native.Mathlib.Omega.{arith}
 use lib.ListN.{length}
 use borrow.Author.Tests.{lt-ltb, le-ltb}
 use borrow.Author.Needs.{needs}
-use Rattle.files.proofs.saving.named.Statement.{statement}
-use Rattle.files.proofs.saving.named.Tie as tie
+use Rattle.saving.proofs.named.Statement.{statement}
+use Rattle.saving.proofs.named.Tie as tie
 
 slice-aggregate-say : tie.Need-slice-aggregate-say
 slice-aggregate-say c = search needs

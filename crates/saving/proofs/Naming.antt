@@ -11,7 +11,7 @@ use Rattle.bits.specs.Over.{over}
 use Rattle.bits.proofs.Over.{over-behind, put-over}
 use Rattle.bits.proofs.Tests.{and-left, and-right}
 use Rattle.libc.specs.Io.{Ended}
-use Rattle.files.specs.Names.{nameable, Named, Tried}
+use Rattle.saving.specs.Names.{nameable, Named, Tried}
 
 -- a name's bounds, from the test
 pub nameable-bounds : (n : ℕ) → nameable n ≡ true → (0 < n) × (n < 4091)

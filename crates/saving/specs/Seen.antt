@@ -2,9 +2,9 @@
 use Prim.Native.Nat.{ℕ, _/_, _%_}
 use mathlib.Core.Bool.{Bool, true, false, _&&_, not, cond}
 use lib.Dec.{eqb}
-use Rattle.files.specs.declared.seen.Seen.{Seen}
-use Rattle.files.specs.declared.seen.Stands.{Stands}
-use Rattle.files.specs.declared.seen.Stands.the-variants.{Nothing, File, Folder, Link, Other}
+use Rattle.saving.specs.declared.seen.Seen.{Seen}
+use Rattle.saving.specs.declared.seen.Stands.{Stands}
+use Rattle.saving.specs.declared.seen.Stands.the-variants.{Nothing, File, Folder, Link, Other}
 
 -- by a mode's four highest bits, which POSIX calls S_IFMT; 0 where nothing is known to stand there
 abbrev pub standsOf : ℕ → Stands

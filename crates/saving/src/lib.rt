@@ -1,11 +1,13 @@
 // Writing a file whole: to a new file beside it, which takes its name when it is written, so that a failure leaves nothing behind
-// and the old file as it was.
+// and the old file as it was. Nothing is replaced but a file that is not the one that was read.
+mod seen;
+
 ghost use Prim.Native.Nat.{_+_, _≤_, _<_};
 ghost use mathlib.Core.Path.{_≡_};
 ghost use mathlib.Core.Bool.{true};
 ghost use lib.ListN.{length};
-ghost use Rattle.files.specs.Names.{nameable, Named, Tried};
-ghost use Rattle.files.specs.Seen.{replaceable};
+ghost use Rattle.saving.specs.Names.{nameable, Named, Tried};
+ghost use Rattle.saving.specs.Seen.{replaceable};
 ghost use Rattle.libc.specs.Io.{Ended};
 use crate::seen::Seen;
 use crate::seen::Stands;

@@ -1,7 +1,7 @@
 -- Each kind is the one that the definition gives after the same tests.
 use borrow.Author.Tests.{eq-eqb, ne-eqb}
-use Rattle.files.proofs.seen.kind.Statement.{statement}
-use Rattle.files.proofs.seen.kind.Tie as tie
+use Rattle.saving.proofs.seen.kind.Statement.{statement}
+use Rattle.saving.proofs.seen.kind.Tie as tie
 
 returns : tie.Need-returns
 returns c = simp (eq-eqb _ _ (c .if1 .taken))

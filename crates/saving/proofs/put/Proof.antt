@@ -2,10 +2,10 @@
 use native.Mathlib.Omega.{arith}
 use mathlib.Core.Path.{sym}
 use lib.ListN.{length}
-use Rattle.files.proofs.Naming.{nameable-bounds, five-more}
+use Rattle.saving.proofs.Naming.{nameable-bounds, five-more}
 use borrow.Author.Needs.{needs}
-use Rattle.files.proofs.saving.put.Statement.{statement}
-use Rattle.files.proofs.saving.put.Tie as tie
+use Rattle.saving.proofs.put.Statement.{statement}
+use Rattle.saving.proofs.put.Tie as tie
 
 slice-aggregate-with-behind : tie.Need-slice-aggregate-with-behind
 slice-aggregate-with-behind c = search needs

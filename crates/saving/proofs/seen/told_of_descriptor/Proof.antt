@@ -40,11 +40,11 @@ use Rattle.libc.proofs.fstat as fstat
 use Rattle.libc.proofs.fstat.Symbol as fstat-def
 use Rattle.libc.proofs.fstat.Symbol.{name as #libc·fstat}
 use Rattle.libc.proofs.fstat.Met as fstat-thm
-use Rattle.files.proofs.Lent.{Row, machine, machines, lent, goes-out, comes-back}
-use Rattle.files.proofs.seen.told_of_descriptor.Key.{name as #told}
-use Rattle.files.proofs.seen.told_of_descriptor as told
-use Rattle.files.proofs.seen.told_of_descriptor.Statement as stated
-use Rattle.files.proofs.seen.told_of_descriptor.Code as code
+use Rattle.saving.proofs.Lent.{Row, machine, machines, lent, goes-out, comes-back}
+use Rattle.saving.proofs.seen.told_of_descriptor.Key.{name as #told}
+use Rattle.saving.proofs.seen.told_of_descriptor as told
+use Rattle.saving.proofs.seen.told_of_descriptor.Statement as stated
+use Rattle.saving.proofs.seen.told_of_descriptor.Code as code
 
 abbrev stayed : Stays (told.ended .signature .params) (told.ended .kept)
 stayed = (stay-none (λ _. i32) yes, (stay-none (λ _. Row) yes, tt))

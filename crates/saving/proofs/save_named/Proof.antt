@@ -1,10 +1,10 @@
 -- A path that leaves five bytes leaves one.
 use native.Mathlib.Omega.{arith}
 use lib.ListN.{length}
-use Rattle.files.proofs.Naming.{nameable-bounds}
+use Rattle.saving.proofs.Naming.{nameable-bounds}
 use borrow.Author.Needs.{needs}
-use Rattle.files.proofs.saving.save_named.Statement.{statement}
-use Rattle.files.proofs.saving.save_named.Tie as tie
+use Rattle.saving.proofs.save_named.Statement.{statement}
+use Rattle.saving.proofs.save_named.Tie as tie
 
 slice-aggregate-with-behind : tie.Need-slice-aggregate-with-behind
 slice-aggregate-with-behind c = search needs

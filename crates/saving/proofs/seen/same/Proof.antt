@@ -1,7 +1,7 @@
 -- The devices are compared, and where they are one the numbers.
 use borrow.Author.Tests.{eq-eqb, ne-eqb}
-use Rattle.files.proofs.seen.same.Statement.{statement}
-use Rattle.files.proofs.seen.same.Tie as tie
+use Rattle.saving.proofs.seen.same.Statement.{statement}
+use Rattle.saving.proofs.seen.same.Tie as tie
 
 returns : tie.Need-returns
 returns c = simp (eq-eqb _ _ (c .before .before .if1 .taken))

@@ -42,11 +42,11 @@ use Rattle.libc.proofs.lstat as lstat
 use Rattle.libc.proofs.lstat.Symbol as lstat-def
 use Rattle.libc.proofs.lstat.Symbol.{name as #libc·lstat}
 use Rattle.libc.proofs.lstat.Met as lstat-thm
-use Rattle.files.proofs.Lent.{Row, machine, machines, lent, goes-out, comes-back}
-use Rattle.files.proofs.seen.told_of_name.Key.{name as #told}
-use Rattle.files.proofs.seen.told_of_name as told
-use Rattle.files.proofs.seen.told_of_name.Statement as stated
-use Rattle.files.proofs.seen.told_of_name.Code as code
+use Rattle.saving.proofs.Lent.{Row, machine, machines, lent, goes-out, comes-back}
+use Rattle.saving.proofs.seen.told_of_name.Key.{name as #told}
+use Rattle.saving.proofs.seen.told_of_name as told
+use Rattle.saving.proofs.seen.told_of_name.Statement as stated
+use Rattle.saving.proofs.seen.told_of_name.Code as code
 
 -- a name's 4,096 bytes
 abbrev Bytes : Slot 1

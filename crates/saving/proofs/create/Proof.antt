@@ -3,9 +3,9 @@ use Prim.Native.Nat.{_-_}
 use native.Mathlib.Omega.{arith}
 use mathlib.Core.Path.{refl}
 use borrow.Author.Needs.{needs}
-use Rattle.files.proofs.Naming.{Trying, tried, tries-on}
-use Rattle.files.proofs.saving.create.Statement.{statement}
-use Rattle.files.proofs.saving.create.Tie as tie
+use Rattle.saving.proofs.Naming.{Trying, tried, tries-on}
+use Rattle.saving.proofs.create.Statement.{statement}
+use Rattle.saving.proofs.create.Tie as tie
 
 abbrev Inv-loop : tie.InvT-loop
 Inv-loop name₀ last digit₀ name digit = Trying name₀ name last digit

@@ -2,8 +2,8 @@
 use mathlib.Core.Path.{sym, _∙_}
 use mathlib.Core.Bool.{false≢true}
 use borrow.Author.Needs.{needs}
-use Rattle.files.proofs.saving.save.Statement.{statement}
-use Rattle.files.proofs.saving.save.Tie as tie
+use Rattle.saving.proofs.save.Statement.{statement}
+use Rattle.saving.proofs.save.Tie as tie
 
 named-requires : tie.Need-named-requires
 named-requires c κs = search needs

@@ -1,9 +1,9 @@
 -- The path stands at the beginning, what is more behind it, and the last byte is set.
 use mathlib.Core.Path.{refl, sym}
-use Rattle.files.proofs.Naming.{stands-behind}
+use Rattle.saving.proofs.Naming.{stands-behind}
 use borrow.Author.Needs.{needs}
-use Rattle.files.proofs.saving.with_behind.Statement.{statement}
-use Rattle.files.proofs.saving.with_behind.Tie as tie
+use Rattle.saving.proofs.with_behind.Statement.{statement}
+use Rattle.saving.proofs.with_behind.Tie as tie
 
 buffer-requires : tie.Need-buffer-requires
 buffer-requires c κs = search needs
