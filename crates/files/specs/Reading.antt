@@ -1,12 +1,13 @@
 -- What reading answers: so many bytes, at most as many as there was room for, or that a read failed.
-use Prim.Native.Nat.{ℕ, _≤_, min}
+use Prim.Native.Nat.{ℕ, _≤_, _<_, min}
 use mathlib.Core.Bool.{Bool, true, false}
 use Rattle.files.specs.declared.Input.{Input}
 use Rattle.files.specs.declared.Input.the-variants.{Bytes, Failed}
 
+-- what may be answered where there is room for so many bytes: without room nothing is read, so nothing fails
 abbrev pub Within : Input → ℕ → Type 0
 Within (Bytes n) room = n ≤ room
-Within Failed room = Unit {0}
+Within Failed room = 0 < room
 
 -- whether a read failed
 abbrev pub failedOf : Input → Bool

@@ -1,5 +1,5 @@
 // Files for programs: reading all of one, or of standard input, into a buffer, so that a failed read is never taken for an end.
-ghost use Prim.Native.Nat.{_-_, _≤_, min};
+ghost use Prim.Native.Nat.{_-_, _<_, min};
 ghost use mathlib.Core.Path.{_≡_};
 ghost use lib.ListN.{length};
 ghost use Rattle.files.specs.Reading.{Within, failedOf, countOf};
@@ -13,7 +13,7 @@ pub enum Input {
 
 // Reads once into the buffer from `from` on.
 fn read_some(fd: i32, buf: &mut [u8], from: usize) -> Input
-    requires { ⌜ from ≤ length (now buf) ⌝ }
+    requires { ⌜ from < length (now buf) ⌝ }
     ensures { λ r. ⌜ Within r (length (now (buf .entry)) - from) ⌝ }
 {
     let got = libc::read(fd, &mut buf[from..]);
