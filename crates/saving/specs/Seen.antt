@@ -1,5 +1,6 @@
--- What stands at a name, as the system tells it, and whether an image may be put there.
-use Prim.Native.Nat.{ℕ, _/_, _%_}
+-- What stands at a name, as the system tells it, and whether an image may be put there, as functions that save say it of each other.
+-- No caller relies on it.
+use Prim.Native.Nat.{ℕ, _/_}
 use mathlib.Core.Bool.{Bool, true, false, _&&_, not, cond}
 use lib.Dec.{eqb}
 use Rattle.saving.specs.declared.seen.Seen.{Seen}
