@@ -10,3 +10,4 @@ pub mod Named
 pub mod Signed
 pub mod Once
 pub mod Follow
+pub mod Written

@@ -53,7 +53,7 @@ module _
     fits : Asks p word limit marks → Judgeable (construct p) image word limit marks
     fits a = record {
       isImage = isImage;
-      short = a .short;
+      short = omega (arith, a .short);
       letters = λ i low. subst (List·Memᴰ (getD word i 0)) (sym (letters-same p)) (a .letters i low);
       low = a .low;
       room = a .room;
