@@ -1,6 +1,7 @@
 -- Laws of the construction: how many states and rows, which ranges they keep, what rows do, that table and program agree, and that compiling has one answer.
 pub mod Every
 pub mod Symbols
+pub mod Seeks
 pub mod Counts
 pub mod Own
 pub mod Parts

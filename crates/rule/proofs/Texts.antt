@@ -1,20 +1,19 @@
 -- "Some program goes on with these tokens" speaks of token lists. It loses nothing against texts: where some program goes on with a
 -- text's first tokens, some text does, which begins with the same bytes up to the last of them and is a program.
 use Prim.Native.Nat.{ℕ, _+_}
-use native.Mathlib.Omega.{arith}
 use mathlib.Core.Path.{_≡_, refl, sym, _∙_, ap, subst}
 use mathlib.Core.Logic.{_↔_}
 use mathlib.Core.Option.{some}
 use mathlib.Core.List.{List, [], _∷_, _++_, append-assoc, List·Memᴰ, List·Memᴰ·head, Memᴰ·append-right, head-eq-of-cons-eq}
 use lib.Dec.{T}
 use Rattle.text.specs.Token.{Token}
-use Rattle.text.specs.Tokens.{Placed, _at_, lineFeed, Ending, ends, white, blank, TokensOf}
+use Rattle.text.specs.Tokens.{_at_, lineFeed, Ending, ends, white, blank, TokensOf}
 use Rattle.text.proofs.Rising.{rising}
 use Rattle.text.proofs.Written.{writable, allWritable, written, written-tokens, laid, cut}
 use Rattle.bits.proofs.Tests.{and-left, and-right, and-of}
 use Rattle.rule.specs.Tree.{Program}
 use Rattle.rule.specs.Grammar.{IsProgram}
-use Rattle.rule.specs.Limits.{Fault, fault, faults}
+use Rattle.rule.specs.Limits.{Fault, fault}
 use Rattle.rule.specs.Faults.{GoesOn, Clean, Breaks}
 use Rattle.rule.specs.Inside.Class.{Mark, spell}
 use Rattle.rule.specs.Inside.Machine as Machine
