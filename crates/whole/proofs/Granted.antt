@@ -4,7 +4,7 @@ use native.Mathlib.Omega.{arith}
 use mathlib.Core.Path.{_≡_, refl, sym, _∙_, ap, subst}
 use mathlib.Core.Logic.{_↔_}
 use mathlib.Core.List.{List, _++_, List·Memᴰ}
-use lib.ListN.{length, getD, take, drop}
+use lib.ListN.{getD, take, drop}
 use lib.Seq.{take-append-seam}
 use Rattle.table.specs.Table.{Table}
 use Rattle.table.specs.WellFormed.{IsImage}
@@ -53,7 +53,7 @@ module _
     fits : Asks p word limit marks → Judgeable (construct p) image word limit marks
     fits a = record {
       isImage = isImage;
-      short = a .short;
+      short = omega (arith, a .short);
       letters = λ i low. subst (List·Memᴰ (getD word i 0)) (sym (letters-same p)) (a .letters i low);
       low = a .low;
       room = a .room;
