@@ -7,7 +7,7 @@ use mathlib.Core.List.{List, [], _∷_, cons≢nil}
 use lib.Dec.{T, leb, eqb}
 use Rattle.text.specs.Token.{word, number, letter, sign}
 use Rattle.text.specs.Tokens.{Placed, _at_, Ending}
-use Rattle.text.specs.First.{part, IsWord, written, Begins, First}
+use Rattle.text.specs.First.{part, IsWord, written, Begins}
 use Rattle.text.specs.declared.Word.{Word}
 use Rattle.text.specs.declared.Word.the-variants as Word
 use Rattle.text.specs.declared.Sign.{Sign}
@@ -26,19 +26,14 @@ use Rattle.reader.specs.Atom.{
   Case,
   stands,
   other,
-  letterRead,
-  counter,
   IsTested,
   byRead,
   byC,
-  IsCompared,
   same,
   differs,
-  IsObject,
   aLetter,
   lend,
   rend,
-  IsNumeral,
   aNumber,
   zeroRead,
   ObjectSays,

@@ -37,7 +37,7 @@ use Rattle.compiler.specs.declared.Place.{Place}
 use Rattle.compiler.specs.declared.walk.Course.{Course}
 use Rattle.compiler.specs.declared.see.Seen.{Seen}
 use Rattle.construction.proofs.Parts.{leads-walk}
-use Rattle.compiler.proofs.Tags.{wordTag, signTag, wordTags, signTags, none-of}
+use Rattle.compiler.proofs.Tags.{signTag, signTags, none-of}
 use Rattle.compiler.proofs.Operators.{operator, join, no-operator, one-operator}
 use Rattle.compiler.proofs.Seeing.{here-some, seen-sign, SignAt, sign-at}
 use Rattle.compiler.proofs.AtomTokens.{FoundAt, atom-found, rows-are}

@@ -8,7 +8,7 @@ use borrow.Author.Tests.{not-true, not-false}
 use mir.Val.{hasKey}
 use denote.Enum.Declared.{tagOf}
 use types.Run.{OneOf, hit, miss}
-use Rattle.text.specs.First.{part, First}
+use Rattle.text.specs.First.{First}
 use Rattle.text.specs.declared.Word.{Word}
 use Rattle.text.specs.declared.Sign.{Sign}
 use Rattle.text.specs.declared.Token.{Token}

@@ -1,5 +1,4 @@
 -- `reader::atom_at` meets its contract.
-use borrow.Author.Needs.{needs}
 use Rattle.reader.proofs.atom_at.Statement.{statement}
 use Rattle.reader.proofs.atom_at.Tie as tie
 
