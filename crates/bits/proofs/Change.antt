@@ -125,7 +125,8 @@ module _ (m : List ℕ) where
     where
       inside : i / 8 < length m → bit (withoutBit m i) i ≡ 0
       inside l = unfold bit withoutBit in
-          (rw (getD-set-same m (i / 8) (numberWithout (getD m (i / 8) 0) (i % 8)) 0 l) (number-cleared (getD m (i / 8) 0) (i % 8)))
+          (ap (λ (b : ℕ). b / 2 ^ (i % 8) % 2) (getD-set-same m (i / 8) (numberWithout (getD m (i / 8) 0) (i % 8)) 0 l)
+          ∙ number-cleared (getD m (i / 8) 0) (i % 8))
 
   -- no other bit changes
   pub bit-cleared-other : (i j : ℕ) → ¬ (j ≡ i) → bit (withoutBit m i) j ≡ bit m j

@@ -5,6 +5,7 @@ use crate::Symbol;
 ghost use mathlib.Core.Path.{_≡_};
 ghost use Rattle.cells.specs.Cell.{last, symbolOn, moved};
 ghost use Rattle.cells.specs.Code.{symbolIs};
+ghost use Rattle.cells.specs.Head.{Moves};
 
 pub struct Head<'a> {
     pub word: &'a [u8],
@@ -26,7 +27,7 @@ pub fn symbol<'a>(h: Head<'a>) -> Symbol
 
 // The head moved by a row's move code.
 pub fn by<'a>(h: Head<'a>, code: u8) -> Head<'a>
-    ensures { λ q. ⌜ (q .word ≡ h .entry .word) × (q .cell ≡ moved (now (h .entry .word)) code (h .entry .cell)) ⌝ }
+    ensures { λ q. ⌜ Moves code (h .entry) q ⌝ }
 {
     Head {
         word: h.word,

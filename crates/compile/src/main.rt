@@ -23,7 +23,14 @@ fn saved(image: &[u8]) -> bool {
         os::fail(b"compile: the name of the image's file");
         return false;
     }
-    files::save(&path[..n], image)
+    saving::save(&path[..n], image, STDIN_FILENO)
+}
+
+// A line that cannot be written is said on standard error: no line never means that all is well.
+fn shown(line: &[u8]) {
+    if !io::write_all(STDOUT_FILENO, line) {
+        os::fail(b"compile: standard output");
+    }
 }
 
 // The file is written before the line, so that `ok` says that it is there.
@@ -38,7 +45,7 @@ fn compile(text: &[u8; 4097], many: usize) {
         }
     }
     let length = answered.line;
-    io::write_all(STDOUT_FILENO, &line[..length]);
+    shown(&line[..length]);
 }
 
 fn main() {

@@ -12,8 +12,11 @@ use lib.Dec.{eqb}
 use borrow.Author.Tests.{eq-eqb, ne-eqb}
 use Rattle.table.specs.Table.{Row}
 use Rattle.construction.specs.Construction.{testRow, eitherCounter, countUp, allSymbols, without, symbolRows}
-use Rattle.compiler.specs.Writing.{Sheet, Filled, Room, Writes, Counts}
-use Rattle.compiler.specs.Atoms.{counterRows, readRows}
+use Rattle.compiler.specs.Writing.{Sheet, Holds, Filled, Room, Writes, Counts}
+use Rattle.reader.specs.declared.atoms.Symbol.{Symbol}
+use Rattle.reader.specs.declared.atoms.Atom.{Atom as Tested}
+use Rattle.reader.specs.declared.atoms.Atom.the-variants as Tested
+use Rattle.compiler.specs.Atoms.{counterRows, readRows, codeOf, walkedAs, rowsOf, Codes}
 use Rattle.construction.proofs.Symbols.{length-countUp, length-symbols}
 
 -- the symbols by their number
@@ -53,31 +56,44 @@ writes-none {out} {place} = record { writes = λ filled fits. same filled }
     same : {h : Sheet} {accepting : List ℕ} {earlier : List Row} → Filled h accepting earlier out place → Filled h accepting (earlier ++ []) out place
     same {h} {accepting} {earlier} filled = subst (λ (rows : List Row). Filled h accepting rows out place) (sym (append-nil earlier)) filled
 
--- rows that are the same over the alphabet at hand
-pub same-room : {out : List ℕ} {place : ℕ} (xs ys : List ℕ → List Row) → ((alphabet : List ℕ) → xs alphabet ≡ ys alphabet) → Room out place xs → Room out place ys
-same-room xs ys same room =
+-- rows that are the same over the alphabet of the image that is held
+pub held-room : {out : List ℕ} {place : ℕ} (xs ys : List ℕ → List Row)
+    → ((h : Sheet) (accepting : List ℕ) (rows : List Row) → Holds h accepting rows out → xs (h .alphabet) ≡ ys (h .alphabet))
+    → Room out place xs
+    → Room out place ys
+held-room xs ys same room =
     record {
       sheet = room .sheet;
       accepting = room .accepting;
       earlier = room .earlier;
       filled = room .filled;
-      fits = subst (λ (rows : List Row). length (room .earlier) + length rows ≤ room .sheet .count) (same (room .sheet .alphabet)) (room .fits);
+      fits = subst (λ (rows : List Row). length (room .earlier) + length rows ≤ room .sheet .count) (same _ _ _ (room .filled .holds)) (room .fits);
     }
 
-pub same-writes : {out after : List ℕ} {place end : ℕ} (xs ys : List ℕ → List Row)
-    → ((alphabet : List ℕ) → xs alphabet ≡ ys alphabet)
+pub held-writes : {out after : List ℕ} {place end : ℕ} (xs ys : List ℕ → List Row)
+    → ((h : Sheet) (accepting : List ℕ) (rows : List Row) → Holds h accepting rows out → xs (h .alphabet) ≡ ys (h .alphabet))
     → Writes out after place end xs
     → Writes out after place end ys
-same-writes {out} {after} {place} {end} xs ys same w = record { writes = λ filled fits. written filled fits }
+held-writes {out} {after} {place} {end} xs ys same w = record { writes = λ filled fits. written filled fits }
   where
     written : {h : Sheet} {accepting : List ℕ} {earlier : List Row}
         → Filled h accepting earlier out place
         → length earlier + length (ys (h .alphabet)) ≤ h .count
         → Filled h accepting (earlier ++ ys (h .alphabet)) after end
     written {h} {accepting} {earlier} filled fits =
-        let e = same (h .alphabet) in
+        let e = same h accepting earlier (filled .holds) in
         subst (λ (rows : List Row). Filled h accepting (earlier ++ rows) after end) e
         (w .writes filled (subst (λ (rows : List Row). length earlier + length rows ≤ h .count) (sym e) fits))
+
+-- and over any alphabet
+pub same-room : {out : List ℕ} {place : ℕ} (xs ys : List ℕ → List Row) → ((alphabet : List ℕ) → xs alphabet ≡ ys alphabet) → Room out place xs → Room out place ys
+same-room xs ys same room = held-room xs ys (λ h accepting rows holds. same (h .alphabet)) room
+
+pub same-writes : {out after : List ℕ} {place end : ℕ} (xs ys : List ℕ → List Row)
+    → ((alphabet : List ℕ) → xs alphabet ≡ ys alphabet)
+    → Writes out after place end xs
+    → Writes out after place end ys
+same-writes xs ys same w = held-writes xs ys (λ h accepting rows holds. same (h .alphabet)) w
 
 -- one symbol, unless it is left out
 pub without-same : (x y p q : ℕ) → y ≡ x → symbolRows (without x (y ∷ [])) p q ≡ []
@@ -222,3 +238,28 @@ read-is e alphabet code p q = ap (λ (t : Bool). readRows alphabet t code p q) e
 
 pub read-is-not : {is : Bool} → is ≡ false → (alphabet : List ℕ) (code p q : ℕ) → readRows alphabet is code p q ≡ otherRows code p q alphabet
 read-is-not e alphabet code p q = ap (λ (t : Bool). readRows alphabet t code p q) e
+
+-- the rows by what the reader answers: of a test of what is read, and of the counter
+pub read-rows-are : {tests : Tested} {equal : Bool} {symbol : Symbol} (sign is : Bool) (alphabet : List ℕ) (code p q : ℕ)
+    → tests ≡ Tested.Read equal symbol
+    → is ≡ walkedAs equal sign
+    → code ≡ codeOf alphabet symbol
+    → rowsOf tests sign alphabet p q ≡ readRows alphabet is code p q
+read-rows-are {symbol = symbol} sign is alphabet code p q tests walked codes =
+    ap (λ (t : Tested). rowsOf t sign alphabet p q) tests
+    ∙ ap (λ (t : Bool). readRows alphabet t (codeOf alphabet symbol) p q) (sym walked)
+    ∙ ap (λ (n : ℕ). readRows alphabet is n p q) (sym codes)
+
+pub counter-rows-are : {tests : Tested} {zero : Bool} (sign is : Bool) (alphabet : List ℕ) (p q : ℕ)
+    → tests ≡ Tested.Counter zero
+    → is ≡ walkedAs zero sign
+    → rowsOf tests sign alphabet p q ≡ counterRows is p q
+counter-rows-are sign is alphabet p q tests walked =
+    ap (λ (t : Tested). rowsOf t sign alphabet p q) tests ∙ ap (λ (t : Bool). counterRows t p q) (sym walked)
+
+-- the code of a symbol that is known
+pub symbol-codes : {out : List ℕ} {x y : Symbol} {code : ℕ}
+    → x ≡ y
+    → ((h : Sheet) (accepting : List ℕ) (rows : List Row) → Holds h accepting rows out → code ≡ codeOf (h .alphabet) y)
+    → Codes out x code
+symbol-codes {out} {code = code} e known = subst (λ (z : Symbol). Codes out z code) (sym e) (record { is = λ holds. known _ _ _ holds })

@@ -223,10 +223,10 @@ pub record WordAt (text : List ℕ) (from end : ℕ) (y : Word) (ts : List Place
   pub is : ts ≡ (word bytes at place) ∷ rest
   pub behind : Behind text from end rest
 
-no-semicolon : (y : Sign) → T (not (eqb (signTag y) 18)) → Sign.Semicolon ≡ y → ⊥
+pub no-semicolon : (y : Sign) → T (not (eqb (signTag y) 18)) → Sign.Semicolon ≡ y → ⊥
 no-semicolon y t e = T-not (eqb (signTag y) 18) t (subst (λ (n : ℕ). T (eqb n 18)) (ap signTag e) tt)
 
-no-other : (y : Word) → T (not (eqb (wordTag y) 20)) → Word.Other ≡ y → ⊥
+pub no-other : (y : Word) → T (not (eqb (wordTag y) 20)) → Word.Other ≡ y → ⊥
 no-other y t e = T-not (eqb (wordTag y) 20) t (subst (λ (n : ℕ). T (eqb n 20)) (ap wordTag e) tt)
 
 pub sign-at : {text : List ℕ} {from p e b : ℕ} {ts : List Placed} {x : Word} {g : Sign} (y : Sign)

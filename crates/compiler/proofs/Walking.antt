@@ -7,7 +7,8 @@ use mathlib.Core.Bool.{Bool, true, false, not}
 use mathlib.Core.List.{List, [], _∷_, _++_, append-nil, append-assoc}
 use lib.ListN.{length}
 use lib.Dec.{T, eqb}
-use types.Run.{OneOf}
+use types.Run.{OneOf, miss}
+use denote.Enum.Declared.{tagOf}
 use Rattle.text.specs.Token.{s}
 use Rattle.text.specs.Token.{sign as signed}
 use Rattle.text.specs.First.{written}
@@ -19,118 +20,97 @@ use Rattle.text.specs.declared.Sign.the-variants as Sign
 use Rattle.table.specs.Table.{Row}
 use Rattle.rule.specs.Tree.{Atom, Condition}
 use Rattle.rule.specs.Grammar.{Ts, IsAtom, readIs, readIsNot, counterIs, counterIsNot, Binding, loosest, tightest, IsCondition, atom, parens, negation, tighter, both, tight, either}
-use Rattle.rule.proofs.Within.{ConditionWithin}
-use Rattle.construction.specs.Construction.{Part, symbolCode, atomRows, Added, walk, oneAfterOther, oneOrOther, test}
+use Rattle.rule.proofs.Within.{AtomWithin, ConditionWithin}
+use Rattle.construction.specs.Construction.{Part, atomRows, Added, walk, oneAfterOther, oneOrOther, test}
 use Rattle.compiler.specs.Writing.{Sheet, Filled, Room, Writes}
 use Rattle.compiler.specs.Seeing.{Here, SeenAs, Sees, Passes}
-use Rattle.compiler.specs.Atoms.{counterRows, readRows, Codes, Compares}
+use Rattle.reader.specs.Atom.{AtomAt}
+use Rattle.reader.specs.Inside.Atoms.{atomOf}
+use Rattle.reader.specs.declared.atoms.Atom.{Atom as Tested}
+use Rattle.reader.specs.declared.atoms.AtomRead.{AtomRead}
+use Rattle.reader.specs.declared.atoms.AtomRead.the-variants.{Found, Refused}
+use Rattle.reader.proofs.atoms.AtomRead as read-type
+use Rattle.compiler.specs.Atoms.{rowsOf}
 use Rattle.compiler.specs.Emission.{At, Doing, Ready, Emitted, Emits, rowsPart, addedPart, AtomTask, anAtom, Closes, byParen, byOr, byAny, WalkTask, walks, joins, joined, takes, viaTo, viaFrom, viaNext, Goes, TestTask, tests}
 use Rattle.compiler.specs.Operators.{ahead, Ahead}
 use Rattle.compiler.specs.declared.Place.{Place}
 use Rattle.compiler.specs.declared.walk.Course.{Course}
 use Rattle.compiler.specs.declared.see.Seen.{Seen}
 use Rattle.construction.proofs.Parts.{leads-walk}
-use Rattle.compiler.proofs.Tags.{wordTag, signTag, wordTags, signTags, none-of}
+use Rattle.compiler.proofs.Tags.{signTag, signTags, none-of}
 use Rattle.compiler.proofs.Operators.{operator, join, no-operator, one-operator}
 use Rattle.compiler.proofs.Seeing.{here-some, seen-sign, SignAt, sign-at}
-use Rattle.compiler.proofs.AtomTokens.{Compared, CounterAtom, counter-atom, ReadAtom, read-atom}
+use Rattle.compiler.proofs.AtomTokens.{FoundAt, atom-found, rows-are}
 use Rattle.compiler.proofs.Emission.{at-room, at-rows, at-moved, at-past, at-onward, emitted-as, emitted-past, rows-emitted, fits-first, fits-then}
 
 -- an atom's task by its parts
 record AtomOf (to : ℕ) (sign : Bool) (alphabet : List ℕ) (p next : ℕ) (ts us : Ts) (part : Part) : Type 0 where
   pub atom : Atom
   pub derived : IsAtom ts atom us
+  pub within : AtomWithin alphabet atom
   pub below : to < next
   pub is : part ≡ rowsPart (atomRows alphabet sign atom p to) p next
 
 atom-of : {to : ℕ} {sign : Bool} {alphabet : List ℕ} {p next : ℕ} {ts us : Ts} {part : Part} → AtomTask to sign alphabet p next ts us part → AtomOf to sign alphabet p next ts us part
-atom-of (anAtom d within below) = record { atom = _; derived = d; below = below; is = refl }
+atom-of (anAtom d within below) = record { atom = _; derived = d; within = within; below = below; is = refl }
 
--- behind an atom
-compared-onward : {text : List ℕ} {start from end : ℕ} {us : Ts} (c : Compared text start from us) → Passes text from 2 end → start ≤ end
-compared-onward c pass = omega (arith, c .onward, pass .behind (c .behind) (c .here) (c .two) .onward)
+abbrev atomIn : Tested → AtomRead → Tested
+atomIn default (Found a end) = a
+atomIn default (Refused r) = default
 
-passed : {text : List ℕ} {start from end : ℕ} {us : Ts} (c : Compared text start from us) → Passes text from 2 end → Here text end us
-passed {text} {end = end} c pass = subst (Here text end) (c .rest) (pass .behind (c .behind) (c .here) (c .two) .here)
+abbrev endIn : AtomRead → ℕ
+endIn (Found a end) = end
+endIn (Refused r) = 0
 
-module _ {text out : List ℕ} {place : Place} {to : ℕ} {sign is : Bool} {t : Seen} (sees : Sees text (place .at) t) (compares : Compares text (t .end) sign is) where
-  module _ {h : Sheet} {accepting : List ℕ} {rows : List Row} {p next : ℕ} {ts us : Ts} {part : Part} (d : Doing (AtomTask to sign) text out place h accepting rows p next ts us part) where
-    abbrev seen : SeenAs text (place .at) ts (t .word) (t .sign) (t .byte) (t .start) (t .end)
-    seen = sees .stands ts (d .stands .here)
+module _ {text out : List ℕ} {place : Place} {to : ℕ} {sign : Bool} {h : Sheet} {accepting : List ℕ} {rows : List Row} {p next : ℕ} {ts us : Ts} {part : Part} (d : Doing (AtomTask to sign) text out place h accepting rows p next ts us part) where
+  abbrev task : AtomOf to sign (h .alphabet) p next ts us part
+  task = atom-of (d .is)
 
-    abbrev task : AtomOf to sign (h .alphabet) p next ts us part
-    task = atom-of (d .is)
+  -- the states that a row of it names
+  pub atom-states : (place .state ≤ 128) × (to ≤ 128)
+  atom-states =
+      let next-is : part .next ≡ next = ap (λ (x : Part). x .next) (task .is) in
+      (omega (arith, d .stands .state, d .stands .taken, d .states), omega (arith, task .below, d .states))
 
-    -- the states that a row of it names
-    pub atom-states : (place .state ≤ 128) × (to ≤ 128)
-    atom-states =
-        let next-is : part .next ≡ next = ap (λ (x : Part). x .next) (task .is) in
-        (omega (arith, d .stands .state, d .stands .taken, d .states), omega (arith, task .below, d .states))
+  module _ {r : AtomRead} (reads : AtomAt text (place .at) r) where
+    abbrev found : FoundAt text (place .at) us (atomOf (task .atom)) r
+    found = atom-found (h .alphabet) reads (d .stands .here) (task .derived) (task .within)
 
-    -- its rows, by what was found
-    atom-rows : (xs : List ℕ → List Row) → atomRows (h .alphabet) sign (task .atom) p to ≡ xs (h .alphabet) → length rows + length (xs (h .alphabet)) ≤ h .count
-    atom-rows xs same =
-        subst (λ (zs : List Row). length rows + length zs ≤ h .count) (ap (λ (x : Part). x .rows) (task .is) ∙ same) (d .fits)
+    -- it is not refused
+    pub atom-not-refused : OneOf (1 ∷ []) (tagOf read-type.the-type r) → ⊥
+    atom-not-refused left = miss (1 ∷ []) 0 tt (subst (λ (x : AtomRead). OneOf (1 ∷ []) (tagOf read-type.the-type x)) (found .is) left)
 
-    module _ (c : t .word ≡ Word.C) where
-      abbrev counter : CounterAtom text (place .at) (t .end) us (task .atom) sign is
-      counter = counter-atom (task .derived) seen compares c
+    module _ (atom : Tested) (end : ℕ) (is : r ≡ Found atom end) where
+      same-atom : atomOf (task .atom) ≡ atom
+      same-atom = ap (atomIn atom) (sym (found .is) ∙ is)
 
-      counter-is : atomRows (h .alphabet) sign (task .atom) p to ≡ counterRows is (place .state) to
-      counter-is = counter .rows (h .alphabet) p to ∙ ap (λ (n : ℕ). counterRows is n to) (sym (d .stands .state))
+      same-end : found .end ≡ end
+      same-end = ap endIn (sym (found .is) ∙ is)
 
-      pub counter-room : Room out (place .row) (λ _. counterRows is (place .state) to)
-      counter-room = at-room (d .stands) _ (atom-rows (λ _. counterRows is (place .state) to) counter-is)
+      atom-rows : atomRows (h .alphabet) sign (task .atom) p to ≡ rowsOf atom sign (h .alphabet) (place .state) to
+      atom-rows =
+          rows-are (h .alphabet) sign (task .atom) p to
+          ∙ ap (λ (a : Tested). rowsOf a sign (h .alphabet) p to) same-atom
+          ∙ ap (λ (n : ℕ). rowsOf atom sign (h .alphabet) n to) (sym (d .stands .state))
 
-      pub counter-onward : {end : ℕ} → Passes text (t .end) 2 end → place .at ≤ end
-      counter-onward pass = compared-onward (counter .compared) pass
+      pub atom-room : Room out (place .row) (λ alphabet. rowsOf atom sign alphabet (place .state) to)
+      atom-room =
+          at-room (d .stands) (λ alphabet. rowsOf atom sign alphabet (place .state) to)
+          (subst (λ (zs : List Row). length rows + length zs ≤ h .count) (ap (λ (x : Part). x .rows) (task .is) ∙ atom-rows) (d .fits))
 
-      pub counter-emits : {after : List ℕ} {end row : ℕ}
-          → Passes text (t .end) 2 end
-          → Writes out after (place .row) row (λ _. counterRows is (place .state) to)
+      pub atom-onward : place .at ≤ end
+      atom-onward = omega (arith, found .onward, same-end)
+
+      pub atom-emits : {after : List ℕ} {row : ℕ}
+          → Writes out after (place .row) row (λ alphabet. rowsOf atom sign alphabet (place .state) to)
           → Emitted text after (record { at = end; state = place .state; next = place .next; row = row }) h accepting rows us part
-      counter-emits {after} {end} pass w =
+      atom-emits w =
           emitted-as (task .is)
-          (rows-emitted (passed (counter .compared) pass)
-          (at-rows (d .stands) (λ _. counterRows is (place .state) to) _ (sym counter-is) (subst (λ (x : Part). length rows + length (x .rows) ≤ h .count) (task .is) (d .fits)) w)
+          (rows-emitted (subst (λ (n : ℕ). Here text n us) same-end (found .here))
+          (at-rows (d .stands) (λ alphabet. rowsOf atom sign alphabet (place .state) to) _ (sym atom-rows) (subst (λ (x : Part). length rows + length (x .rows) ≤ h .count) (task .is) (d .fits)) w)
           (d .stands .state)
           (d .stands .takes)
           (d .stands .taken))
-
-    module _ (other : OneOf (wordTags (10 ∷ [])) (wordTag (t .word))) where
-      abbrev read : ReadAtom text (place .at) (t .end) us (task .atom) sign is
-      read = read-atom (task .derived) seen compares other
-
-      pub read-onward : {end : ℕ} → Passes text (t .end) 2 end → place .at ≤ end
-      read-onward pass = compared-onward (read .compared) pass
-
-      module _ {object code : ℕ} (pass : Passes text (t .end) 1 object) (codes : Codes text object out code) where
-        read-code : code ≡ symbolCode (h .alphabet) (read .object)
-        read-code =
-            codes .is (d .stands .filled .holds)
-            (pass .behind (read .compared .behind) (read .compared .here) (omega (arith, read .compared .two)) .here)
-            (read .sought)
-
-        read-rows : atomRows (h .alphabet) sign (task .atom) p to ≡ readRows (h .alphabet) is code (place .state) to
-        read-rows =
-            read .rows (h .alphabet) p to
-            ∙ ap (λ (n : ℕ). readRows (h .alphabet) is n p to) (sym read-code)
-            ∙ ap (λ (n : ℕ). readRows (h .alphabet) is code n to) (sym (d .stands .state))
-
-        pub read-room : Room out (place .row) (λ alphabet. readRows alphabet is code (place .state) to)
-        read-room = at-room (d .stands) _ (atom-rows (λ alphabet. readRows alphabet is code (place .state) to) read-rows)
-
-        pub read-emits : {after : List ℕ} {end row : ℕ}
-            → Passes text (t .end) 2 end
-            → Writes out after (place .row) row (λ alphabet. readRows alphabet is code (place .state) to)
-            → Emitted text after (record { at = end; state = place .state; next = place .next; row = row }) h accepting rows us part
-        read-emits pass w =
-            emitted-as (task .is)
-            (rows-emitted (passed (read .compared) pass)
-            (at-rows (d .stands) (λ alphabet. readRows alphabet is code (place .state) to) _ (sym read-rows) (subst (λ (x : Part). length rows + length (x .rows) ≤ h .count) (task .is) (d .fits)) w)
-            (d .stands .state)
-            (d .stands .takes)
-            (d .stands .taken))
 
 -- a condition's task by its parts
 record WalkOf (level : Binding) (to : ℕ) (sign : Bool) (alphabet : List ℕ) (p next : ℕ) (ts us : Ts) (part : Part) : Type 0 where

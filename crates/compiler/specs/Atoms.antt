@@ -3,14 +3,13 @@ use Prim.Native.Nat.{ℕ}
 use mathlib.Core.Path.{_≡_}
 use mathlib.Core.Bool.{Bool, true, false, not}
 use mathlib.Core.List.{List, [], _∷_}
-use Rattle.text.specs.Token.{s}
-use Rattle.text.specs.Tokens.{_at_}
 use Rattle.table.specs.Table.{Row}
-use Rattle.rule.specs.Tree.{Sought}
-use Rattle.rule.specs.Grammar.{Ts, IsSought}
-use Rattle.construction.specs.Construction.{anySymbol, testRow, symbolCode, allSymbols, without, symbolRows}
+use Rattle.reader.specs.declared.atoms.Symbol.{Symbol}
+use Rattle.reader.specs.declared.atoms.Symbol.the-variants as Symbol
+use Rattle.reader.specs.declared.atoms.Atom.{Atom}
+use Rattle.reader.specs.declared.atoms.Atom.the-variants as Atom
+use Rattle.construction.specs.Construction.{leftMark, rightMark, anySymbol, testRow, indexIn, allSymbols, without, symbolRows}
 use Rattle.compiler.specs.Writing.{Sheet, Holds}
-use Rattle.compiler.specs.Seeing.{Here}
 
 -- a test of the counter walked as `==`, or as `!=`
 abbrev pub counterRows : Bool → ℕ → ℕ → List Row
@@ -22,15 +21,22 @@ abbrev pub readRows : List ℕ → Bool → ℕ → ℕ → ℕ → List Row
 readRows alphabet true code p q = symbolRows (code ∷ []) p q
 readRows alphabet false code p q = symbolRows (without code (allSymbols alphabet)) p q
 
--- the code of what stands at a place, over the alphabet of the image
-pub record Codes (text : List ℕ) (from : ℕ) (out : List ℕ) (code : ℕ) : Type 0 where
-  pub is : {h : Sheet} {accepting : List ℕ} {rows : List Row} {ts us : Ts} {x : Sought}
-      → Holds h accepting rows out
-      → Here text from ts
-      → IsSought ts x us
-      → code ≡ symbolCode (h .alphabet) x
+-- the code of a symbol
+abbrev pub codeOf : List ℕ → Symbol → ℕ
+codeOf alphabet (Symbol.Letter b place) = indexIn alphabet b
+codeOf alphabet Symbol.Lend = leftMark
+codeOf alphabet Symbol.Rend = rightMark
 
--- whether the comparison at a place is walked as `==`
-pub record Compares (text : List ℕ) (from : ℕ) (sign is : Bool) : Type 0 where
-  pub equals : (q : ℕ) (us : Ts) → Here text from ((s "==" at q) ∷ us) → is ≡ sign
-  pub differs : (q : ℕ) (us : Ts) → Here text from ((s "!=" at q) ∷ us) → is ≡ not sign
+-- a comparison with its sign is walked as `==`, or as `!=`
+abbrev pub walkedAs : Bool → Bool → Bool
+walkedAs true sign = sign
+walkedAs false sign = not sign
+
+-- the rows of an atom with its sign
+abbrev pub rowsOf : Atom → Bool → List ℕ → ℕ → ℕ → List Row
+rowsOf (Atom.Read equal symbol) sign alphabet p q = readRows alphabet (walkedAs equal sign) (codeOf alphabet symbol) p q
+rowsOf (Atom.Counter zero) sign alphabet p q = counterRows (walkedAs zero sign) p q
+
+-- the code of a symbol over the alphabet of the image
+pub record Codes (out : List ℕ) (symbol : Symbol) (code : ℕ) : Type 0 where
+  pub is : {h : Sheet} {accepting : List ℕ} {rows : List Row} → Holds h accepting rows out → code ≡ codeOf (h .alphabet) symbol

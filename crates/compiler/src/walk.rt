@@ -6,7 +6,7 @@ ghost use lib.ListN.{length, getD};
 ghost use Prim.Native.Nat.{ℕ};
 ghost use Rattle.construction.specs.Construction.{allSymbols, without, symbolRows};
 ghost use Rattle.compiler.specs.Writing.{Held, Room, Writes};
-ghost use Rattle.compiler.specs.Atoms.{counterRows, readRows, Codes, Compares};
+ghost use Rattle.compiler.specs.Atoms.{counterRows, readRows, walkedAs, rowsOf, Codes};
 ghost use Rattle.compiler.specs.Emission.{Ready, Emits, AtomTask, WalkTask, joins, joined, takes, Goes, TestTask};
 ghost use Rattle.rule.specs.Grammar.{tightest};
 use super::Place;
@@ -14,20 +14,18 @@ use super::ahead::operator_ahead;
 use super::see::past;
 use super::see::see;
 use super::write;
+use reader::AtomRead;
 use text::Sign;
-use text::Word;
 
 // The code of what `read` is compared with.
-fn symbol(text: &[u8], out: &[u8], at: usize) -> u8
+fn code_of(out: &[u8], symbol: reader::Symbol) -> u8
     requires { ⌜ Held (now out) ⌝ }
-    ensures { λ r. ⌜ Codes (now (text .entry)) at (now (out .entry)) r ⌝ }
+    ensures { λ r. ⌜ Codes (now (out .entry)) symbol r ⌝ }
 {
-    let t = see(text, at);
-    let word = t.word;
-    match word {
-        Word::Lend => 16,
-        Word::Rend => 17,
-        _ => write::letter(out, t.byte),
+    match symbol {
+        reader::Symbol::Letter { byte, place: _ } => write::letter(out, byte),
+        reader::Symbol::Lend => 16,
+        reader::Symbol::Rend => 17,
     }
 }
 
@@ -96,40 +94,41 @@ fn read_rows(out: &mut [u8], at: usize, from: usize, to: usize, code: u8, is: bo
     }
 }
 
-// Whether the comparison that stands here is walked as `==`.
-fn walked_as_is(text: &[u8], at: usize, sign: bool) -> bool
-    ensures { λ r. ⌜ Compares (now (text .entry)) at sign r ⌝ }
+// Whether a comparison is walked as `==`.
+fn walked_as_is(equal: bool, sign: bool) -> bool
+    ensures { λ r. ⌜ r ≡ walkedAs equal sign ⌝ }
 {
-    let t = see(text, at);
-    let relation = t.sign;
-    if let Sign::Equals = relation {
-        sign
-    } else {
-        !sign
+    if equal { sign } else { !sign }
+}
+
+// The rows of an atom with its sign.
+fn rows(out: &mut [u8], at: usize, from: usize, to: usize, tests: reader::Atom, sign: bool) -> usize
+    requires { ⌜ Room (now out) at (λ alphabet. rowsOf tests sign alphabet from to) × (from ≤ 128) × (to ≤ 128) ⌝ }
+    ensures { λ r. ⌜ Writes (now (out .entry)) (now (out .exit)) at r (λ alphabet. rowsOf tests sign alphabet from to) ⌝ }
+{
+    match tests {
+        reader::Atom::Read { equal, symbol } => {
+            let code = code_of(out, symbol);
+            read_rows(out, at, from, to, code, walked_as_is(equal, sign))
+        }
+        reader::Atom::Counter { zero } => {
+            counter_row(out, at, from, to, walked_as_is(zero, sign))
+        }
     }
 }
 
+// An atom, as the reader answers it. In a program that is known to have one here it is found.
 fn atom(text: &[u8], out: &mut [u8], place: Place, to: usize, sign: bool) -> Place
     requires { ⌜ Ready (AtomTask to sign) (now text) (now out) place ⌝ }
     ensures { λ r. ⌜ Emits (AtomTask to sign) (now (text .entry)) (now (out .entry)) (now (out .exit)) place r ⌝ }
 {
-    let t = see(text, place.at);
-    let is = walked_as_is(text, t.end, sign);
-    let end = past(text, t.end, 2);
-    let word = t.word;
-    if let Word::C = word {
-        let row = counter_row(out, place.row, place.state, to, is);
-        return Place {
-            at: end,
-            state: place.state,
-            next: place.next,
-            row,
-        };
-    }
-    let code = symbol(text, out, past(text, t.end, 1));
-    let row = read_rows(out, place.row, place.state, to, code, is);
+    let read = reader::atom_at(text, place.at);
+    let AtomRead::Found { atom: tests, at } = read else {
+        return place;
+    };
+    let row = rows(out, place.row, place.state, to, tests, sign);
     Place {
-        at: end,
+        at,
         state: place.state,
         next: place.next,
         row,

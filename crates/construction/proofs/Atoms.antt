@@ -243,10 +243,10 @@ module _ (alphabet : List ℕ) (few : length alphabet ≤ 16) where
       atom-pass (readIs x) false within holds = isNot-pass x within holds
       atom-pass (readIsNot x) true within holds = isNot-pass x within (not-true _ holds)
       atom-pass (readIsNot x) false within holds = is-pass x within (not-false _ holds)
-      atom-pass (counterIs n) true within holds = zero-pass n within holds
-      atom-pass (counterIs n) false within holds = above-pass n within holds
-      atom-pass (counterIsNot n) true within holds = above-pass n within (not-true _ holds)
-      atom-pass (counterIsNot n) false within holds = zero-pass n within (not-false _ holds)
+      atom-pass (counterIs n) true within holds = zero-pass n (within .0) holds
+      atom-pass (counterIs n) false within holds = above-pass n (within .0) holds
+      atom-pass (counterIsNot n) true within holds = above-pass n (within .0) (not-true _ holds)
+      atom-pass (counterIsNot n) false within holds = zero-pass n (within .0) (not-false _ holds)
 
       -- and an atom with a row that fits has that truth
       pub pass-atom :
@@ -259,7 +259,7 @@ module _ (alphabet : List ℕ) (few : length alphabet ≤ 16) where
       pass-atom (readIs x) false within pass = pass-isNot x within pass
       pass-atom (readIsNot x) true within pass = ap not (pass-isNot x within pass)
       pass-atom (readIsNot x) false within pass = ap not (pass-is x within pass)
-      pass-atom (counterIs n) true within pass = pass-zero n within pass
-      pass-atom (counterIs n) false within pass = pass-above n within pass
-      pass-atom (counterIsNot n) true within pass = ap not (pass-above n within pass)
-      pass-atom (counterIsNot n) false within pass = ap not (pass-zero n within pass)
+      pass-atom (counterIs n) true within pass = pass-zero n (within .0) pass
+      pass-atom (counterIs n) false within pass = pass-above n (within .0) pass
+      pass-atom (counterIsNot n) true within pass = ap not (pass-above n (within .0) pass)
+      pass-atom (counterIsNot n) false within pass = ap not (pass-zero n (within .0) pass)

@@ -1,6 +1,6 @@
 -- How many states and rows the construction takes: the two formulas of document 01. That of the states holds over every tree and every
--- alphabet. That of the rows holds over every tree without faults: a 17th letter, or a letter outside the alphabet, has no code of its
--- own, and `read !=` then has another number of rows.
+-- alphabet; that of the rows where the letters are at most 16 and the conditions seek no others. (A 17th letter, or one outside the
+-- alphabet, has no code of its own, and `read !=` then has another number of rows.)
 use Prim.Native.Nat.{ℕ, suc, _+_, _≤_}
 use native.Mathlib.Omega.{arith}
 use mathlib.Core.Path.{_≡_, refl, _∙_, ap}
@@ -39,16 +39,7 @@ use Rattle.rule.specs.Tree.{
   letterBytes,
 }
 use Rattle.rule.specs.Limits.{faults}
-use Rattle.rule.proofs.Within.{
-  SoughtWithin,
-  AtomWithin,
-  ConditionWithin,
-  StatementWithin,
-  StatementsWithin,
-  ArmsWithin,
-  program-within,
-  length-letterBytes,
-}
+use Rattle.rule.proofs.Within.{SoughtWithin, program-within, length-letterBytes}
 use Rattle.construction.specs.Construction.{
   symbolRows,
   isNotRows,
@@ -82,6 +73,7 @@ use Rattle.rule.specs.Counts.{
   programRows,
 }
 use Rattle.construction.proofs.Symbols.{length-others}
+use Rattle.construction.proofs.Seeks.{AtomSeeks, ConditionSeeks, StatementSeeks, StatementsSeek, ArmsSeek, statements-seek}
 
 -- the states that a condition takes when walked with this sign: each operator takes one under one of the two signs
 unfoldable pub walkStates : Condition → Bool → ℕ
@@ -251,7 +243,7 @@ or-rows : (a b : Walk) (m n : ℕ) → AddsRows a m → AddsRows b n → AddsRow
 unfolding oneOrOther
 or-rows a b m n f g p q next = simp length-append (omega (arith, f p q next, g p q (a p q next .next)))
 
--- over an alphabet of at most 16 letters, every faultless tree has its rows
+-- over an alphabet of at most 16 letters, every tree whose conditions seek letters of it has its rows
 module _ (alphabet : List ℕ) (few : length alphabet ≤ 16) where
   length-isNotRows :
       (x : Sought) (p q : ℕ) → SoughtWithin alphabet x → length (isNotRows alphabet x p q) ≡ length alphabet + 1
@@ -260,9 +252,9 @@ module _ (alphabet : List ℕ) (few : length alphabet ≤ 16) where
   -- an atom, walked with this sign
   pub atom-rows :
       (a : Atom) (sign : Bool) (p q : ℕ)
-      → AtomWithin alphabet a
+      → AtomSeeks alphabet a
       → length (atomRows alphabet sign a p q) ≡ atomSigned (length alphabet) a sign
-  unfolding atomRows atomSigned AtomWithin
+  unfolding atomRows atomSigned AtomSeeks
   atom-rows (readIs x) true p q within = length-symbolRows _ p q
   atom-rows (readIs x) false p q within = length-isNotRows x p q within
   atom-rows (readIsNot x) true p q within = length-isNotRows x p q within
@@ -275,9 +267,9 @@ module _ (alphabet : List ℕ) (few : length alphabet ≤ 16) where
   -- a condition, walked with this sign
   pub condition-rows :
       (c : Condition) (sign : Bool)
-      → ConditionWithin alphabet c
+      → ConditionSeeks alphabet c
       → AddsRows (walk alphabet c sign) (walkRows (length alphabet) c sign)
-  unfolding walk walkRows ConditionWithin
+  unfolding walk walkRows ConditionSeeks
   condition-rows (atom a) sign within = λ p q next. atom-rows a sign p q within
   condition-rows (parens o c) sign within = condition-rows c sign within
   condition-rows (negation o c) sign within = condition-rows c (not sign) within
@@ -293,7 +285,7 @@ module _ (alphabet : List ℕ) (few : length alphabet ≤ 16) where
   -- both tests of a condition together
   pub test-rows :
       (c : Condition) (p x y next : ℕ)
-      → ConditionWithin alphabet c
+      → ConditionSeeks alphabet c
       → length (test alphabet c p x y next .rows) ≡ conditionRows (length alphabet) c
   unfolding test
   test-rows c p x y next within =
@@ -306,12 +298,12 @@ module _ (alphabet : List ℕ) (few : length alphabet ≤ 16) where
       ))
 
   mutual
-    unfolding statementPart statementsPart armsPart ifPart loopPart armPart andThen statementRows statementsRows armsRows StatementWithin StatementsWithin ArmsWithin
+    unfolding statementPart statementsPart armsPart ifPart loopPart armPart andThen statementRows statementsRows armsRows StatementSeeks StatementsSeek ArmsSeek
 
     -- a statement
     pub statement-rows :
         (s : Statement) (p next : ℕ)
-        → StatementWithin alphabet s
+        → StatementSeeks alphabet s
         → length (statementPart alphabet s p next .rows) ≡ statementRows (length alphabet) s
     statement-rows (plain e) p next within = refl
     statement-rows accept p next within = refl
@@ -356,7 +348,7 @@ module _ (alphabet : List ℕ) (few : length alphabet ≤ 16) where
     -- a block's statements
     pub statements-rows :
         (b : Statements) (p next : ℕ)
-        → StatementsWithin alphabet b
+        → StatementsSeek alphabet b
         → length (statementsPart alphabet b p next .rows) ≡ statementsRows (length alphabet) b
     statements-rows done p next within = refl
     statements-rows (a then b) p next within =
@@ -371,7 +363,7 @@ module _ (alphabet : List ℕ) (few : length alphabet ≤ 16) where
     -- a branch's arms after the first
     pub arms-rows :
         (a : Arms) (p q next : ℕ)
-        → ArmsWithin alphabet a
+        → ArmsSeek alphabet a
         → length (armsPart alphabet a p q next .rows) ≡ armsRows (length alphabet) a
     arms-rows (lastArm t o b) p q next within =
         simp length-append (omega (arith, statements-rows b next (suc next) within))
@@ -384,11 +376,19 @@ module _ (alphabet : List ℕ) (few : length alphabet ≤ 16) where
           arms-rows a p q (first .next) (within .1),
         ))
 
--- a faultless program's table has the rows that document 01 counts
-pub rows-formula : (p : Program) → faults p ≡ [] → length (construct p .rows) ≡ programRows p
+-- a program's table has the rows that document 01 counts, where its letters are at most 16 and its conditions seek no others: however
+-- deep it is, whatever numbers stand in it, and also with letters that repeat
+pub rows-over-trees : (p : Program)
+    → length (letterBytes (p .alphabet)) ≤ 16
+    → StatementsSeek (letterBytes (p .alphabet)) (p .body)
+    → length (construct p .rows) ≡ programRows p
 unfolding construct programPart programRows
-rows-formula p none =
-    let alphabet = letterBytes (p .alphabet) in
-    let within = program-within p none in
-    statements-rows alphabet (within .few) (p .body) 0 1 (within .body)
+rows-over-trees p few seek =
+    statements-rows (letterBytes (p .alphabet)) few (p .body) 0 1 seek
     ∙ ap (λ (k : ℕ). statementsRows k (p .body)) (length-letterBytes (p .alphabet))
+
+-- so has that of every program without faults
+pub rows-formula : (p : Program) → faults p ≡ [] → length (construct p .rows) ≡ programRows p
+rows-formula p none =
+    let within = program-within p none in
+    rows-over-trees p (within .few) (statements-seek (letterBytes (p .alphabet)) (p .body) (within .body))

@@ -3,6 +3,7 @@ pub mod Answered
 pub mod Against
 pub mod Every
 pub mod Symbols
+pub mod Seeks
 pub mod Counts
 pub mod Own
 pub mod Parts

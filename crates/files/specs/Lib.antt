@@ -1,2 +1,2 @@
 -- What reading answers.
-pub mod Within
+pub mod Reading

@@ -1,7 +1,7 @@
 -- The ones of the first half of the marks are as many as the situations that are reached, so the count that the judge gives is both.
 use Prim.Native.Nat.{ℕ, _%_, _≤_, _<_}
 use native.Mathlib.Omega.{arith}
-use mathlib.Core.Path.{_≡_, sym, _∙_, ap, subst}
+use mathlib.Core.Path.{_≡_, sym, _∙_}
 use mathlib.Core.List.{List}
 use lib.ListN.{length, take}
 use Rattle.bits.specs.Bit.{bit}

@@ -11,7 +11,7 @@ use Rattle.table.specs.Table.{Table}
 use Rattle.table.specs.WellFormed.{IsImage}
 use Rattle.table.specs.Refusal.{First}
 use Rattle.table.proofs.Image.{table-once}
-use Rattle.table.proofs.Refusal.{Single, Gives, Each, None, single-at-zero, first-once, first-has, first-none, each-append, first-split}
+use Rattle.table.proofs.Refusal.{Single, Gives, Each, None, Some, NumbersRise, single-at-zero, first-once, first-has, first-none, first-least, each-append, first-split}
 use Rattle.machine.specs.Run.{Reach, Accepts}
 use Rattle.machine.proofs.Run.{no-everywhere}
 use Rattle.judgement.specs.Verdict.{Verdict, Yes, No, verdictNumber, IsVerdict}
@@ -35,6 +35,17 @@ module _ (image word : List ℕ) (limit : ℕ) (before : List ℕ) where
   -- every reason to refuse gives a number from 21 on
   pub reasons-numbered : Each (Gives (λ n p. 21 ≤ n)) (reasons image word limit before)
   reasons-numbered = omega arith
+
+-- and the numbers rise
+numbers-rise : (image word : List ℕ) (limit : ℕ) (before : List ℕ) → NumbersRise (reasons image word limit before)
+numbers-rise image word limit before = (omega arith, (omega arith, (omega arith, (omega arith, (tt, tt)))))
+
+-- judging refuses in number order: the number that is given is the least of those whose reason holds
+pub refused-least
+    : {image word : List ℕ} {limit : ℕ} {before after : List ℕ} {n p : ℕ} → Refused image word limit before after n p
+    → (m q : ℕ) → Some (reasons image word limit before) m q → n ≤ m
+refused-least {image} {word} {limit} {before} {n = n} {p = p} a m q =
+    first-least n m p q (reasons image word limit before) (reasons-single image word limit before) (numbers-rise image word limit before) (a .first)
 
 module _ {image word : List ℕ} {limit : ℕ} {before after after′ : List ℕ} where
   -- two refusals give the same number and place and leave the same marks

@@ -23,7 +23,8 @@ use Rattle.text.proofs.Same.{sameToken, same-token}
 use Rattle.rule.specs.Inside.Class as Class
 use Rattle.rule.specs.Inside.Class.{Mark, spell, Class, mark, other, tokenOf, classify, token-of-class, class-of-mark}
 use Rattle.rule.specs.Inside.Machine.{exact, Stack, Totals, choices, pick}
-use Rattle.reader.specs.Inside.Answers.{Front, refusalOf, spot, totals, Ready, Answers}
+use Rattle.reader.specs.Atom.{refusalOf}
+use Rattle.reader.specs.Inside.Answers.{Front, spot, totals, Ready, Answers}
 use Rattle.reader.specs.declared.answers.Counts.{Counts}
 use Rattle.reader.specs.declared.answers.Refusal.{Refusal}
 use Rattle.reader.specs.declared.answers.Read.the-variants.{Went, Refused}

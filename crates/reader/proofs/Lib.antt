@@ -6,6 +6,7 @@ pub mod Missed
 pub mod Exact
 pub mod Alphabet
 pub mod Tested
+pub mod Said
 pub mod Operators
 pub mod Peek
 pub mod Branches

@@ -25,7 +25,8 @@ use Rattle.text.proofs.Follow.{placeOf}
 use Rattle.rule.specs.Inside.Class as Class
 use Rattle.rule.specs.Inside.Class.{spell, Class, mark, other, tokenOf, classify, token-of-class}
 use Rattle.rule.specs.Inside.Machine.{Symbol, Stack, Totals, Move, Choice, on, onNumber, onLetter, choices, take, pick, run}
-use Rattle.reader.specs.Inside.Answers.{refusalOf, spot, Stops, Answers}
+use Rattle.reader.specs.Atom.{refusalOf}
+use Rattle.reader.specs.Inside.Answers.{spot, Stops, Answers}
 use Rattle.reader.specs.declared.answers.Refusal.{Refusal}
 use Rattle.reader.specs.declared.answers.Read.the-variants.{Refused}
 use Rattle.reader.proofs.Arms.{passing, left-passes, valuesLeft, value-left}

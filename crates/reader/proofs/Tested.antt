@@ -29,40 +29,46 @@ use Rattle.rule.specs.Limits.{faultIf, isIn, soughtFaults, numberFaults, atomFa
 use Rattle.rule.proofs.Within.{kept}
 use Rattle.rule.specs.Inside.Class as Class
 use Rattle.rule.specs.Inside.Class.{Class, tokenOf, token-of-class}
-use Rattle.rule.specs.Inside.Machine.{Symbol, number, operand, sought, Stack, Value, Totals, counted, Move, outside, choices, pick, move, run}
-use Rattle.reader.specs.Inside.Answers.{Front, refusalOf, spot, totals, Stops, Ready, Answers}
-use Rattle.reader.specs.Inside.Atoms.{symbolOf, atomOf, rowsOf, compared, behind, isSign, NoSign, Tests}
+use Rattle.rule.specs.Inside.Machine.{Symbol, number, operand, sought, Stack, Value, Totals, counted, Move, outside, choices, pick, move, refused, run}
+use Rattle.reader.specs.Atom.{refusalOf}
+use Rattle.reader.specs.Inside.Answers.{Front, spot, totals, Stops, Ready, Answers}
+use Rattle.reader.specs.Inside.Atoms.{symbolOf, atomOf, rowsOf, strayOf, Zeroed, letterOf, compared, behind, isSign, NoSign, Tests}
 use Rattle.reader.specs.declared.answers.Refusal.{Refusal}
 use Rattle.reader.specs.declared.answers.Counts.{Counts}
 use Rattle.reader.specs.declared.answers.Read.the-variants as Read
 use Rattle.reader.specs.declared.answers.Read.the-variants.{Went}
+use Rattle.reader.specs.declared.atoms.Symbol.{Symbol as Sought}
 use Rattle.reader.specs.declared.atoms.Symbol.the-variants as Sought
+use Rattle.reader.proofs.atoms.Symbol as symbol-type
+use Rattle.reader.specs.declared.atoms.Stray.{Stray}
+use Rattle.reader.specs.declared.atoms.Stray.the-variants as Stray
 use Rattle.reader.specs.declared.atoms.Atom.{Atom}
 use Rattle.reader.specs.declared.atoms.Atom.the-variants as Atom
 use Rattle.reader.specs.declared.atoms.AtomRead.{AtomRead}
 use Rattle.reader.specs.declared.atoms.AtomRead.the-variants.{Found, Refused}
 use Rattle.reader.proofs.Moves.{goes, breaks, comes-stops, counts-plus}
 use Rattle.reader.proofs.Arms.{valuesLeft}
+use Rattle.reader.proofs.Front.{front-letter}
 use Rattle.reader.proofs.Missed.{Misses, missed, sortsLeft, missesSign, missesWord, missed-sort, missed-sign, missed-word}
 
 -- a token by its class
 front-token : {text : List ℕ} {from p q : ℕ} {k : Class} (f : Front text from k p q) → f .token ≡ tokenOf k
 front-token f = sym (token-of-class (f .token)) ∙ ap tokenOf (f .is)
 
-module _ {text : List ℕ} {from : ℕ} {a : List ℕ} {lead : Ts → Ts} {x : Symbol} where
+module _ {text : List ℕ} {from : ℕ} {lead : Ts → Ts} {x : Symbol} where
   -- what comes first is refused
   pub test-missed : {k : Token} {r : Refusal}
       → First text from k
       → ((t : Totals) → Misses text t x k)
       → r ≡ refusalOf k
-      → Tests text from a lead x (Refused r)
-  test-missed {k} f h right = record { right = λ t e. rw right (missed k f (h t)) }
+      → Tests text from lead x (Refused r)
+  test-missed {k} f h right = record { right = λ t. rw right (missed k f (h t)) }
 
   pub test-refuses : {k : Token} {r : Refusal}
       → First text from k
       → ((t : Totals) → OneOf (sortsLeft t x k) (tagOf token-type.the-type k))
       → r ≡ refusalOf k
-      → Tests text from a lead x (Refused r)
+      → Tests text from lead x (Refused r)
   test-refuses {k} f h right = test-missed f (λ t. missed-sort text x t k (h t)) right
 
   pub test-refuses-sign : {k : Token} {r : Refusal} {p q : ℕ} {v : Sign}
@@ -70,7 +76,7 @@ module _ {text : List ℕ} {from : ℕ} {a : List ℕ} {lead : Ts → Ts} {x : S
       → k ≡ Token.Sign p q v
       → ((t : Totals) → OneOf (valuesLeft sign-type.enum (missesSign t x p)) (tagOf sign-type.the-type v))
       → r ≡ record { number = 4; place = p }
-      → Tests text from a lead x (Refused r)
+      → Tests text from lead x (Refused r)
   test-refuses-sign {p = p} {q = q} {v = v} f e h right =
       test-missed (subst (λ (u : Token). First text from u) e f) (λ t. missed-sign text x t p q v (h t)) right
 
@@ -79,7 +85,7 @@ module _ {text : List ℕ} {from : ℕ} {a : List ℕ} {lead : Ts → Ts} {x : S
       → k ≡ Token.Word p q v
       → ((t : Totals) → OneOf (valuesLeft word-type.enum (missesWord t x p (part text p q))) (tagOf word-type.the-type v))
       → r ≡ record { number = 4; place = p }
-      → Tests text from a lead x (Refused r)
+      → Tests text from lead x (Refused r)
   test-refuses-word {p = p} {q = q} {v = v} f e h right =
       test-missed (subst (λ (u : Token). First text from u) e f) (λ t. missed-word text x t p q v (h t)) right
 
@@ -87,21 +93,20 @@ module _ {text : List ℕ} {from : ℕ} {a : List ℕ} {lead : Ts → Ts} {x : S
     -- a limit is broken
     pub test-breaks : (m : Totals → Move (Value x)) {n : ℕ}
         → ((t : Totals) → pick (choices t p x) k ≡ some (m t))
-        → ((t : Totals) → t .alphabet ≡ a → m t .breaks ≡ true)
+        → ((t : Totals) → m t .breaks ≡ true)
         → ((t : Totals) → m t .fault ≡ n)
-        → Tests text from a lead x (Refused (record { number = n; place = p }))
+        → Tests text from lead x (Refused (record { number = n; place = p }))
     test-breaks m h b n =
-        record { right = λ t e. subst (λ (j : ℕ). Stops text (spot from (x ∷ []) t) (record { number = j; place = p })) (n t) (breaks x t f (h t) (b t e)) }
+        record { right = λ t. subst (λ (j : ℕ). Stops text (spot from (x ∷ []) t) (record { number = j; place = p })) (n t) (breaks x t f (h t) (b t)) }
 
     -- a token of an atom, and the rest of it
     pub test-on : (m : Totals → Move (Value x)) {y : Symbol} {r : AtomRead}
         → ((t : Totals) → pick (choices t p x) k ≡ some (m t))
         → ((t : Totals) → m t .breaks ≡ false)
         → ((t : Totals) → m t .push ≡ y ∷ [])
-        → ((t : Totals) → m t .totals .alphabet ≡ t .alphabet)
-        → Tests text q a (λ ts. lead ((tokenOf k at p) ∷ ts)) y r
-        → Tests text from a lead x r
-    test-on m {r = Found atom to} h b e l g =
+        → Tests text q (λ ts. lead ((tokenOf k at p) ∷ ts)) y r
+        → Tests text from lead x r
+    test-on m {r = Found atom to} h b e g =
         let g′ = g .right in
         let once = tokens-once (f .rest) (g′ .here) in
         record {
@@ -114,27 +119,27 @@ module _ {text : List ℕ} {from : ℕ} {a : List ℕ} {lead : Ts → Ts} {x : S
                 there = g′ .there;
                 tree = g′ .tree;
                 derived = g′ .derived;
-                within = g′ .within;
+                zeroed = g′ .zeroed;
                 is = g′ .is;
                 forth = omega (arith, f .back, f .some, g′ .forth);
                 inside = g′ .inside;
               };
         }
-    test-on m {y = y} {r = Refused r} h b e l g =
+    test-on m {y = y} {r = Refused r} h b e g =
         record {
           right =
-              λ t same.
+              λ t.
               comes-stops
               (goes x t f (h t) (b t))
-              (subst (λ (st : Stack). Stops text (spot q st (m t .totals)) r) (sym (e t)) (g .right (m t .totals) (l t ∙ same)));
+              (subst (λ (st : Stack). Stops text (spot q st (m t .totals)) r) (sym (e t)) (g .right (m t .totals)));
         }
 
     -- the last token of an atom
     pub test-found : {atom : Atom} (tree : Tree.Atom)
         → ((ts : Ts) → IsAtom (lead ((tokenOf k at p) ∷ ts)) tree ts)
-        → atomFaults a tree ≡ []
+        → Zeroed tree
         → atom ≡ atomOf tree
-        → Tests text from a lead x (Found atom q)
+        → Tests text from lead x (Found atom q)
     test-found tree h g e =
         record {
           right =
@@ -146,7 +151,7 @@ module _ {text : List ℕ} {from : ℕ} {a : List ℕ} {lead : Ts → Ts} {x : S
                 there = f .rest;
                 tree = tree;
                 derived = h (f .after);
-                within = g;
+                zeroed = g;
                 is = e;
                 forth = omega (arith, f .back, f .some);
                 inside = f .within;
@@ -181,39 +186,27 @@ counter-is : (equal : Bool) (n : Number) → Atom.Counter equal ≡ atomOf (coun
 counter-is true n = refl
 counter-is false n = refl
 
-read-faults : (a : List ℕ) (equal : Bool) (x : Tree.Sought) → atomFaults a (readOf equal x) ≡ soughtFaults a x
-unfolding atomFaults
-read-faults a true x = refl
-read-faults a false x = refl
+read-zeroed : (equal : Bool) (x : Tree.Sought) → Zeroed (readOf equal x)
+read-zeroed true x = tt
+read-zeroed false x = tt
 
-counter-faults : (a : List ℕ) (equal : Bool) (n : Number) → atomFaults a (counterOf equal n) ≡ numberFaults 0 n
-unfolding atomFaults
-counter-faults a true n = refl
-counter-faults a false n = refl
+counter-zeroed : (equal : Bool) (n : Number) → numberFaults 0 n ≡ [] → Zeroed (counterOf equal n)
+counter-zeroed true n e = e
+counter-zeroed false n e = e
 
-module _ {text : List ℕ} {from p q : ℕ} {a : List ℕ} (equal : Bool) (o r : ℕ) where
+module _ {text : List ℕ} {from p q : ℕ} (equal : Bool) (o r : ℕ) where
   -- what `read` is compared with
   pub sought-found : {k : Class} (x : Tree.Sought)
       → Front text from k p q
       → ((ts : Ts) → IsSought ((tokenOf k at p) ∷ ts) x ts)
-      → soughtFaults a x ≡ []
-      → Tests text from a (λ ts. behind (w "read") o (behind (compared equal) r ts)) sought (Found (Atom.Read equal (symbolOf x)) q)
-  sought-found x f h g =
-      test-found f (readOf equal x) (λ ts. is-read equal o r (h ts)) (read-faults a equal x ∙ g) (read-is equal x)
-
-  pub letter-found : {b : ℕ}
-      → Front text from (Class.letter b) p q
-      → isIn b a ≡ true
-      → Tests text from a (λ ts. behind (w "read") o (behind (compared equal) r ts)) sought (Found (Atom.Read equal (Sought.Letter b)) q)
-  unfolding soughtFaults faultIf
-  letter-found {b} f h =
-      sought-found (Tree.letter (record { byte = b; place = p })) f (λ ts. Grammar.aLetter) (ap (λ (t : Bool). faultIf (not t) 6 p) h)
+      → Tests text from (λ ts. behind (w "read") o (behind (compared equal) r ts)) sought (Found (Atom.Read equal (symbolOf x)) q)
+  sought-found x f h = test-found f (readOf equal x) (λ ts. is-read equal o r (h ts)) (read-zeroed equal x) (read-is equal x)
 
   -- what `c` is compared with
   pub zero-found : {l : List ℕ}
       → Front text from (Class.number l) p q
       → outside 0 l ≡ false
-      → Tests text from a (λ ts. behind (w "c") o (behind (compared equal) r ts)) (number 0) (Found (Atom.Counter equal) q)
+      → Tests text from (λ ts. behind (w "c") o (behind (compared equal) r ts)) (number 0) (Found (Atom.Counter equal) q)
   unfolding numberFaults faultIf
   zero-found {l} f h =
       let n : Number = record { digits = l; place = p } in
@@ -221,16 +214,21 @@ module _ {text : List ℕ} {from p q : ℕ} {a : List ℕ} (equal : Bool) (o r :
       f
       (counterOf equal n)
       (λ ts. is-counter equal o r p l ts)
-      (counter-faults a equal n ∙ ap (λ (t : Bool). faultIf t 7 p) h)
+      (counter-zeroed equal n (ap (λ (t : Bool). faultIf t 7 p) h))
       (counter-is equal n)
 
--- a letter outside the alphabet
-pub letter-outside : {text : List ℕ} {from p q b : ℕ} {a : List ℕ} {lead : Ts → Ts}
-    → Front text from (Class.letter b) p q
-    → isIn b a ≡ false
-    → Tests text from a lead sought (Refused (record { number = 6; place = p }))
-letter-outside {b = b} f h =
-    test-breaks f _ (λ t. refl) (λ t e. ap (λ (l : List ℕ). not (isIn b l)) e ∙ ap not h) (λ t. refl)
+-- where no word stands, a letter is what `read` is compared with, and anything else is refused
+pub letter-or-refused : {text : List ℕ} {from : ℕ} (k : Token) (equal : Bool) (o r : ℕ)
+    → First text from k
+    → OneOf (1 ∷ 2 ∷ 3 ∷ 4 ∷ 5 ∷ []) (tagOf token-type.the-type k)
+    → Tests text from (λ ts. behind (w "read") o (behind (compared equal) r ts)) sought (letterOf equal k)
+letter-or-refused (Token.Word p q x) equal o r f h = absurd (miss (1 ∷ 2 ∷ 3 ∷ 4 ∷ 5 ∷ []) 0 tt h)
+letter-or-refused (Token.Number p q) equal o r f h = test-refuses f (λ t. hit (1 ∷ 3 ∷ 4 ∷ 5 ∷ []) 1 tt) refl
+letter-or-refused (Token.Letter p q b) equal o r f h =
+    sought-found equal o r (Tree.letter (record { byte = b; place = p })) (front-letter f refl) (λ ts. Grammar.aLetter)
+letter-or-refused (Token.Sign p q x) equal o r f h = test-refuses f (λ t. hit (1 ∷ 3 ∷ 4 ∷ 5 ∷ []) 3 tt) refl
+letter-or-refused (Token.End p) equal o r f h = test-refuses f (λ t. hit (1 ∷ 3 ∷ 4 ∷ 5 ∷ []) 4 tt) refl
+letter-or-refused (Token.Broken p) equal o r f h = test-refuses f (λ t. hit (1 ∷ 3 ∷ 4 ∷ 5 ∷ []) 5 tt) refl
 
 -- no sign and no word is left
 pub nor-sign : {text : List ℕ} {from : ℕ} {k : Token}
@@ -282,17 +280,88 @@ atom-runs n t st e (Grammar.readIsNot h) g = sought-runs (counted 0 (length (t .
 atom-runs n t st e (Grammar.counterIs {r = r} {n = l} {ts = ts}) g = zero-runs (counted 0 2 t) st e l r ts g
 atom-runs n t st e (Grammar.counterIsNot {r = r} {n = l} {ts = ts}) g = zero-runs (counted 0 2 t) st e l r ts g
 
-module _ {text : List ℕ} {from n : ℕ} {a : List ℕ} {r : AtomRead} {counts : Counts} (h : Tests text from a (λ ts. ts) (operand n) r) where
+abbrev strays : Stray → ℕ
+strays Stray.Nowhere = 0
+strays (Stray.At p) = 1
+
+abbrev strayPlace : Stray → ℕ
+strayPlace Stray.Nowhere = 0
+strayPlace (Stray.At p) = p
+
+-- of an atom that is found, a letter outside the alphabet is the only fault left
+not-stray : (b p : ℕ) (a : List ℕ) → elim (isIn b a) [ true ↦ Stray.Nowhere | false ↦ Stray.At p ] ≡ Stray.Nowhere → isIn b a ≡ true
+not-stray b p a e = go (isIn b a) e
+  where
+    go : (t : Bool) → elim t [ true ↦ Stray.Nowhere | false ↦ Stray.At p ] ≡ Stray.Nowhere → t ≡ true
+    go true h = refl
+    go false h = absurd (let no : _≡_ {A = ℕ} 1 0 = ap strays h in omega arith)
+
+is-stray : (b p q : ℕ) (a : List ℕ) → elim (isIn b a) [ true ↦ Stray.Nowhere | false ↦ Stray.At p ] ≡ Stray.At q → (isIn b a ≡ false) × (p ≡ q)
+is-stray b p q a e = go (isIn b a) e
+  where
+    go : (t : Bool) → elim t [ true ↦ Stray.Nowhere | false ↦ Stray.At p ] ≡ Stray.At q → (t ≡ false) × (p ≡ q)
+    go true h = absurd (let no : _≡_ {A = ℕ} 0 1 = ap strays h in omega arith)
+    go false h = (refl, ap strayPlace h)
+
+-- a mark is no letter, and a letter of the alphabet is not outside it
+pub mark-strays : (a : List ℕ) (equal : Bool) (x : Sought) → OneOf (1 ∷ 2 ∷ []) (tagOf symbol-type.the-type x) → Stray.Nowhere ≡ strayOf a (Atom.Read equal x)
+mark-strays a equal (Sought.Letter b p) h = absurd (miss (1 ∷ 2 ∷ []) 0 tt h)
+mark-strays a equal Sought.Lend h = refl
+mark-strays a equal Sought.Rend h = refl
+
+pub letter-strays : (a : List ℕ) (equal : Bool) (b p : ℕ) (t : Bool) → isIn b a ≡ t → elim t [ true ↦ Stray.Nowhere | false ↦ Stray.At p ] ≡ strayOf a (Atom.Read equal (Sought.Letter b p))
+letter-strays a equal b p t e = ap (λ (u : Bool). elim u [ true ↦ Stray.Nowhere | false ↦ Stray.At p ]) (sym e)
+
+no-stray : {A : Type 0} (p : ℕ) → Stray.Nowhere ≡ Stray.At p → A
+no-stray p h = absurd (let no : _≡_ {A = ℕ} 0 1 = ap strays h in omega arith)
+
+sought-clean : (a : List ℕ) (equal : Bool) (x : Tree.Sought) → strayOf a (Atom.Read equal (symbolOf x)) ≡ Stray.Nowhere → soughtFaults a x ≡ []
+unfolding soughtFaults faultIf
+sought-clean a equal (Tree.letter l) e = ap (λ (t : Bool). faultIf (not t) 6 (l .place)) (not-stray (l .byte) (l .place) a e)
+sought-clean a equal Tree.lend e = refl
+sought-clean a equal Tree.rend e = refl
+
+atom-clean : (a : List ℕ) (x : Tree.Atom) → Zeroed x → strayOf a (atomOf x) ≡ Stray.Nowhere → atomFaults a x ≡ []
+unfolding atomFaults
+atom-clean a (Tree.readIs x) z e = sought-clean a true x e
+atom-clean a (Tree.readIsNot x) z e = sought-clean a false x e
+atom-clean a (Tree.counterIs n) z e = z
+atom-clean a (Tree.counterIsNot n) z e = z
+
+-- such a letter is refused with its place
+sought-stops : (t : Totals) (st : Stack) (e : Ending) (equal : Bool) (q : ℕ) {ts us : Ts} {x : Tree.Sought}
+    → IsSought ts x us
+    → strayOf (t .alphabet) (Atom.Read equal (symbolOf x)) ≡ Stray.At q
+    → run (sought ∷ st) t ts e ≡ refused 6 q
+unfolding run move
+sought-stops t st e equal q (Grammar.aLetter {p = p} {b = b}) h =
+    let out = is-stray b p q (t .alphabet) h in
+    rw (out .0, run) (ap (refused 6) (out .1))
+sought-stops t st e equal q Grammar.lend h = no-stray q h
+sought-stops t st e equal q Grammar.rend h = no-stray q h
+
+atom-stops : (n : ℕ) (t : Totals) (st : Stack) (e : Ending) (q : ℕ) {ts us : Ts} {x : Tree.Atom}
+    → IsAtom ts x us
+    → strayOf (t .alphabet) (atomOf x) ≡ Stray.At q
+    → run (operand n ∷ st) t ts e ≡ refused 6 q
+unfolding run move
+atom-stops n t st e q (Grammar.readIs h) g = sought-stops (counted 0 (length (t .alphabet) + 2) t) st e true q h g
+atom-stops n t st e q (Grammar.readIsNot h) g = sought-stops (counted 0 (length (t .alphabet) + 2) t) st e false q h g
+atom-stops n t st e q Grammar.counterIs g = no-stray q g
+atom-stops n t st e q Grammar.counterIsNot g = no-stray q g
+
+module _ {text : List ℕ} {from n : ℕ} {a : List ℕ} {r : AtomRead} {counts : Counts} (h : Tests text from (λ ts. ts) (operand n) r) where
   -- an operand that is an atom
   pub atom-answers : {atom : Atom} {to : ℕ} {l : Counts} {rows : ℕ}
       → r ≡ Found atom to
+      → strayOf a atom ≡ Stray.Nowhere
       → Ready text from counts
       → length a ≤ 16
       → rows ≡ rowsOf (length a) atom
       → l ≡ record { states = counts .states + 0; rows = counts .rows + rows }
       → Answers text (spot from (operand n ∷ []) (totals a counts)) [] a (Went to l)
-  atom-answers {atom} {to} {l} {rows} e ready few rows-are more =
-      let i = subst (λ (u : AtomRead). Tests text from a (λ ts. ts) (operand n) u) e h .right in
+  atom-answers {atom} {to} {l} {rows} e stays ready few rows-are more =
+      let i = subst (λ (u : AtomRead). Tests text from (λ ts. ts) (operand n) u) e h .right in
       let same : counted 0 (rowsOf (length a) (atomOf (i .tree))) (totals a counts) ≡ totals a l =
       ap (λ (k : ℕ). counted 0 k (totals a counts)) (sym (rows-are ∙ ap (rowsOf (length a)) (i .is))) ∙ counts-plus a more
       in
@@ -307,7 +376,7 @@ module _ {text : List ℕ} {from n : ℕ} {a : List ℕ} {r : AtomRead} {counts 
                     ending = i .ending;
                     here = i .here;
                     there = i .there;
-                    same = λ st. atom-runs n (totals a counts) st (i .ending) (i .derived) (i .within) ∙ ap (λ (k : Totals). run st k (i .after) (i .ending)) same;
+                    same = λ st. atom-runs n (totals a counts) st (i .ending) (i .derived) (atom-clean a (i .tree) (i .zeroed) (ap (strayOf a) (sym (i .is)) ∙ stays)) ∙ ap (λ (k : Totals). run st k (i .after) (i .ending)) same;
                     forth = omega (arith, i .forth);
                   };
               ready =
@@ -322,4 +391,21 @@ module _ {text : List ℕ} {from n : ℕ} {a : List ℕ} {r : AtomRead} {counts 
 
   -- and one that is none
   pub atom-refused : {f : Refusal} → r ≡ Refused f → Answers text (spot from (operand n ∷ []) (totals a counts)) [] a (Read.Refused f)
-  atom-refused {f} e = record { right = subst (λ (u : AtomRead). Tests text from a (λ ts. ts) (operand n) u) e h .right (totals a counts) refl }
+  atom-refused {f} e = record { right = subst (λ (u : AtomRead). Tests text from (λ ts. ts) (operand n) u) e h .right (totals a counts) }
+
+  -- and one whose letter is outside the alphabet
+  pub atom-strays : {atom : Atom} {to q : ℕ}
+      → r ≡ Found atom to
+      → strayOf a atom ≡ Stray.At q
+      → Answers text (spot from (operand n ∷ []) (totals a counts)) [] a (Read.Refused (record { number = 6; place = q }))
+  atom-strays {q = q} e out =
+      let i = subst (λ (u : AtomRead). Tests text from (λ ts. ts) (operand n) u) e h .right in
+      record {
+        right =
+            record {
+              before = i .before;
+              ending = i .ending;
+              here = i .here;
+              same = λ st. atom-stops n (totals a counts) st (i .ending) q (i .derived) (ap (strayOf a) (sym (i .is)) ∙ out);
+            };
+      }

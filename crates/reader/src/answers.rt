@@ -5,7 +5,8 @@ ghost use Prim.Native.Nat.{ℕ, _+_, _^_, _<_};
 ghost use Rattle.text.specs.Token as Spelt;
 ghost use Rattle.rule.specs.Inside.Class.{Mark, spell};
 ghost use Rattle.rule.specs.Inside.Machine.{exact};
-ghost use Rattle.reader.specs.Inside.Answers.{refusalOf, totals, spot, Ready, Answers};
+ghost use Rattle.reader.specs.Atom.{refusalOf};
+ghost use Rattle.reader.specs.Inside.Answers.{totals, spot, Ready, Answers};
 use text::Token;
 use tokeniser::token_at;
 

@@ -9,23 +9,28 @@ use super::answers::Read;
 use super::answers::Refusal;
 use super::answers::refuse;
 use super::atoms::AtomRead;
-use super::atoms::atom_at;
+use super::atoms::Stray;
+use super::atoms::atom_from;
 use super::atoms::rows_of;
+use super::atoms::stray_of;
 use super::letters::Letters;
 use text::Sign;
 use text::Token;
 use tokeniser::token_at;
 
-// An atom with its rows.
+// An atom with its rows. A letter outside the alphabet is refused.
 fn counted_atom_at(text: &[u8], at: usize, counts: Counts, letters: Letters) -> Read
     requires { ⌜ Ready (now text) at counts ⌝ }
     requires { ⌜ NoSign (now text) at × Sized letters ⌝ }
     ensures { λ r. ⌜ ((n : ℕ) → Answers (now (text .entry)) (spot at (operand n ∷ []) (totals (alphabetOf letters) counts)) [] (alphabetOf letters) r) ⌝ }
 {
-    match atom_at(text, at, letters) {
-        AtomRead::Found { atom, at: next } => Read::Went {
-            at: next,
-            counts: counts.plus(0, rows_of(atom, letters.count)),
+    match atom_from(text, at) {
+        AtomRead::Found { atom, at: next } => match stray_of(atom, letters) {
+            Stray::Nowhere => Read::Went {
+                at: next,
+                counts: counts.plus(0, rows_of(atom, letters.count)),
+            },
+            Stray::At(place) => Read::Refused(Refusal { number: 6, place }),
         },
         AtomRead::Refused(refusal) => Read::Refused(refusal),
     }

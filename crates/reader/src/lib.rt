@@ -9,8 +9,13 @@ mod programs;
 mod settings;
 mod statements;
 
+ghost use Rattle.reader.specs.Atom.{AtomAt};
 ghost use Rattle.reader.specs.Reading.{ReadsTo};
 use answers::Read;
+pub use answers::Refusal;
+pub use atoms::Atom;
+pub use atoms::AtomRead;
+pub use atoms::Symbol;
 use programs::program_of;
 
 pub enum Reading {
@@ -52,4 +57,11 @@ pub fn read(text: &[u8]) -> Reading
             }
         }
     }
+}
+
+// An atom of a condition by itself, whatever letters the alphabet has: the emitter goes by it.
+pub fn atom_at(text: &[u8], at: usize) -> AtomRead
+    ensures { λ r. ⌜ AtomAt (now (text .entry)) at r ⌝ }
+{
+    atoms::atom_from(text, at)
 }

@@ -54,25 +54,26 @@ fn statements_at(text: &[u8], at: usize, counts: Counts, letters: Letters, left:
     let mut so_far = counts;
     loop {
         let token = token_at(text, from);
-        if let Token::Sign { at: _, end, sign } = token {
-            let Sign::CloseBrace = sign else {
-                return Read::Refused(refuse(token));
+        let Token::Sign { at: _, end, sign } = token else {
+            let read = statement_at(text, from, so_far, letters, left);
+            let Read::Went {
+                at: next,
+                counts: counted,
+            } = read
+            else {
+                return read;
             };
-            return Read::Went {
-                at: end,
-                counts: so_far,
-            };
-        }
-        let read = statement_at(text, from, so_far, letters, left);
-        let Read::Went {
-            at: next,
-            counts: counted,
-        } = read
-        else {
-            return read;
+            from = next;
+            so_far = counted;
+            continue;
         };
-        from = next;
-        so_far = counted;
+        let Sign::CloseBrace = sign else {
+            return Read::Refused(refuse(token));
+        };
+        return Read::Went {
+            at: end,
+            counts: so_far,
+        };
     }
 }
 
@@ -155,21 +156,19 @@ fn while_at(text: &[u8], at: usize, counts: Counts, letters: Letters, left: usiz
     ensures { λ r. ⌜ Answers (now (text .entry)) (spot at (loop (16 - left) ∷ []) (totals (alphabetOf letters) counts)) [] (alphabetOf letters) r ⌝ }
 {
     let token = token_at(text, at);
-    match token {
-        Token::Sign { at: _, end, sign } => {
-            let Sign::OpenParen = sign else {
-                return Read::Refused(refuse(token));
-            };
-            guarded_at(text, end, counts.plus(2, 1), letters, left)
-        }
-        Token::Word { at: _, end, word } => {
-            let Word::Choose = word else {
-                return Read::Refused(refuse(token));
-            };
-            block_at(text, end, counts.plus(2, 3), letters, left)
-        }
-        _ => Read::Refused(refuse(token)),
-    }
+    let Token::Sign { at: _, end, sign } = token else {
+        let Token::Word { at: _, end, word } = token else {
+            return Read::Refused(refuse(token));
+        };
+        let Word::Choose = word else {
+            return Read::Refused(refuse(token));
+        };
+        return block_at(text, end, counts.plus(2, 3), letters, left);
+    };
+    let Sign::OpenParen = sign else {
+        return Read::Refused(refuse(token));
+    };
+    guarded_at(text, end, counts.plus(2, 1), letters, left)
 }
 
 // Behind `branch`: arms, two at least.

@@ -50,7 +50,8 @@ use Rattle.rule.proofs.Steps.{
 use Rattle.rule.proofs.Complete.{program-eats, builtOn, built, program-once}
 use Rattle.rule.proofs.Tally.{program-is}
 use Rattle.rule.proofs.Sound.{Ended, eaten-program}
-use Rattle.rule.proofs.Places.{placed, past, rising-more, rising-apart, rising-front}
+use Rattle.text.proofs.Written.{laid}
+use Rattle.rule.proofs.Places.{past, rising-more, rising-apart, rising-front}
 use Rattle.rule.proofs.Viable.{shortAll, completes}
 use Rattle.rule.proofs.Trace as Trace
 use Rattle.rule.proofs.Trace.{Passed, Trace, eat-one, passed-runs, passed-end, trace}
@@ -74,11 +75,11 @@ passed-final : {ts : Ts} {q : Program} (x : Passed ts) → IsProgram ts q → x 
 passed-final {q = q} x d = Option·some-injective (x .state) (final q) (sym (x .eaten) ∙ eats-program d)
 
 -- behind tokens that are taken
-eat-then : (ts : Ts) {z : State} → eat begin ts ≡ some z → (us : Ts) → eat begin (ts ++ us) ≡ eat z us
+pub eat-then : (ts : Ts) {z : State} → eat begin ts ≡ some z → (us : Ts) → eat begin (ts ++ us) ≡ eat z us
 eat-then ts h us = eat-append begin ts us ∙ ap (λ (o : Option State). o >>= λ y. eat y us) h
 
 -- tokens with which a program goes on are taken
-goes-taken : {ts : Ts} (c : GoesOn ts) → (y : State) × (eat begin ts ≡ some y)
+pub goes-taken : {ts : Ts} (c : GoesOn ts) → (y : State) × (eat begin ts ≡ some y)
 goes-taken {ts} c = go (eat begin ts) refl (sym (eat-append begin ts (c .after)) ∙ eats-program (c .derived))
   where
     go : (o : Option State)
@@ -89,14 +90,14 @@ goes-taken {ts} c = go (eat begin ts) refl (sym (eat-append begin ts (c .after))
     go (some y) e h = (y, e)
 
 -- behind them the machine sees the rest of the program's faults
-goes-adds : {ts : Ts} (c : GoesOn ts) (z : State) → eat begin ts ≡ some z → Adds z (final (c .program)) (c .after)
+pub goes-adds : {ts : Ts} (c : GoesOn ts) (z : State) → eat begin ts ≡ some z → Adds z (final (c .program)) (c .after)
 goes-adds {ts} c z h =
     eat-adds z (final (c .program)) (c .after) (sym (eat-then ts h (c .after)) ∙ eats-program (c .derived))
 
 -- and with tokens that are taken a program goes on
 taken-goes : {ts : Ts} (z : State) → Rising ts → eat begin ts ≡ some z → GoesOn ts
 taken-goes {ts} z r h =
-    let us = placed (past ts) (shortAll (z .stack)) in
+    let us = laid (past ts) (shortAll (z .stack)) in
     let (x, d) =
     eaten-program
     (ts ++ us)
@@ -105,7 +106,7 @@ taken-goes {ts} z r h =
     record { after = us; program = x; rising = rising-more r (shortAll (z .stack)); derived = d }
 
 -- what stands after tokens is not at the place of one of them
-not-within : {ts : Ts} (c : GoesOn ts) {t u : Token} {p : ℕ} → List·Memᴰ (t at p) ts → ¬ List·Memᴰ (u at p) (c .after)
+pub not-within : {ts : Ts} (c : GoesOn ts) {t u : Token} {p : ℕ} → List·Memᴰ (t at p) ts → ¬ List·Memᴰ (u at p) (c .after)
 not-within {ts} c {p = p} m n = let h : p < p = rising-apart ts (c .after) (c .rising) m n in omega arith
 
 -- tokens passed are clean
@@ -124,7 +125,7 @@ none-in [] h = refl
 none-in (a ∷ l) h = absurd (h a (List·Memᴰ·head refl))
 
 -- clean tokens are passed
-clean-passed : {ts : Ts} → Clean ts → Passed ts
+pub clean-passed : {ts : Ts} → Clean ts → Passed ts
 clean-passed {ts} c =
     let (y, h) = goes-taken (c .goesOn) in
     let a = eat-adds begin y ts h in

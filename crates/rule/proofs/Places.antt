@@ -1,19 +1,16 @@
 -- Laws of rising places: tokens can be added behind, and what stands behind is at a later place.
-use Prim.Native.Nat.{ℕ, suc, _<_}
+use Prim.Native.Nat.{ℕ, suc, _+_, _<_}
 use native.Mathlib.Nat.{le-refl}
 use native.Mathlib.Omega.{arith}
 use mathlib.Core.Path.{ap}
 use mathlib.Core.List.{List, [], _∷_, _++_, List·Memᴰ, List·Memᴰ·head, List·Memᴰ·tail, List·Memᴰ·not-nil, Memᴰ·append-right}
 use Rattle.text.specs.Token.{Token}
+use lib.ListN.{length}
 use Rattle.text.specs.Tokens.{Placed, _at_, Rising, empty, single, rises}
+use Rattle.text.proofs.Written.{lexeme, laid}
 
 abbrev pub placeOf : Placed → ℕ
 placeOf (t at p) = p
-
--- tokens at this place and those after it
-abbrev pub placed : ℕ → List Token → List Placed
-placed p [] = []
-placed p (t ∷ ts) = (t at p) ∷ placed (suc p) ts
 
 -- the place behind the last token
 abbrev pub past : List Placed → ℕ
@@ -21,16 +18,18 @@ past [] = 0
 past (t ∷ []) = suc (placeOf t)
 past (t ∷ u ∷ ts) = past (u ∷ ts)
 
-placed-rise : (p : ℕ) (us : List Token) → Rising (placed p us)
-placed-rise p [] = empty
-placed-rise p (t ∷ []) = single
-placed-rise p (t ∷ u ∷ us) = rises (le-refl _) (placed-rise (suc p) (u ∷ us))
+laid-rise : (p : ℕ) (us : List Token) → Rising (laid p us)
+laid-rise p [] = empty
+laid-rise p (t ∷ []) = single
+laid-rise p (t ∷ u ∷ us) =
+    let later : p < p + length (lexeme t) + 1 = omega arith in
+    rises later (laid-rise (p + length (lexeme t) + 1) (u ∷ us))
 
 -- tokens behind the last one keep the places rising
-pub rising-more : {ts : List Placed} → Rising ts → (us : List Token) → Rising (ts ++ placed (past ts) us)
-rising-more empty us = placed-rise 0 us
+pub rising-more : {ts : List Placed} → Rising ts → (us : List Token) → Rising (ts ++ laid (past ts) us)
+rising-more empty us = laid-rise 0 us
 rising-more (single {t = t at p}) [] = single
-rising-more (single {t = t at p}) (u ∷ us) = rises (le-refl _) (placed-rise (suc p) (u ∷ us))
+rising-more (single {t = t at p}) (u ∷ us) = rises (le-refl _) (laid-rise (suc p) (u ∷ us))
 rising-more (rises h r) us = rises h (rising-more r us)
 
 rising-rest : {t : Placed} {ts : List Placed} → Rising (t ∷ ts) → Rising ts

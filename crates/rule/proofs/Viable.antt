@@ -12,18 +12,18 @@ use Rattle.rule.specs.Inside.Class.{Mark, spell, classify, class-of-mark
 use Rattle.rule.specs.Inside.Machine as Machine
 use Rattle.rule.specs.Inside.Machine.{Symbol, Stack, Values, Move, on, pick}
 use Rattle.rule.proofs.Steps.{Far, state, eat}
-use Rattle.rule.proofs.Places.{placed}
+use Rattle.text.proofs.Written.{laid}
 use Rattle.rule.proofs.Sound.{Ended}
 
 -- the digit 0 and the letter a
-abbrev zeroToken : Token
+abbrev pub zeroToken : Token
 zeroToken = Token.number (48 ∷ [])
 
-abbrev letterToken : Token
+abbrev pub letterToken : Token
 letterToken = Token.letter 97
 
 -- a few tokens that a symbol takes, and nothing after them
-abbrev short : Symbol → List Token
+abbrev pub short : Symbol → List Token
 short (Machine.exact m) = spell m ∷ []
 short Machine.program =
     w "alphabet"
@@ -75,7 +75,7 @@ exact-picked : {A : Type 0} (m : Mark) (r : Move A) → pick (on m r ∷ []) (cl
 exact-picked m r = rw (class-of-mark m) (rw (T-true (sameToken (spell m) (spell m)) (same-self (spell m)), pick))
 
 -- the tokens complete what is expected
-pub completes : (st : Stack) (a : Far) (k : Values st → Program) (p : ℕ) → Ended (eat (state st a k) (placed p (shortAll st)))
+pub completes : (st : Stack) (a : Far) (k : Values st → Program) (p : ℕ) → Ended (eat (state st a k) (laid p (shortAll st)))
 unfolding eat
 completes [] a k p = refl
 completes (Machine.exact m ∷ st) a k p = rw (exact-picked m) (completes st _ _ _)

@@ -112,6 +112,10 @@ or-right : (a b : Bool) → (a || b) ≡ false → b ≡ false
 or-right true b e = absurd (true≢false e)
 or-right false b e = e
 
+and-first : (a b : Bool) → (a && b) ≡ true → a ≡ true
+and-first true b e = refl
+and-first false b e = e
+
 and-right : (a b : Bool) → (a && b) ≡ true → b ≡ true
 and-right true b e = e
 and-right false b e = absurd (true≢false (sym e))
@@ -138,12 +142,12 @@ SoughtWithin alphabet (letter l) = List·Memᴰ (l .byte) alphabet
 SoughtWithin alphabet lend = Unit
 SoughtWithin alphabet rend = Unit
 
--- and the counter is tested against 0 only
+-- and the counter is tested against 0 only, in its form
 unfoldable pub AtomWithin : List ℕ → Atom → Type 0
 AtomWithin alphabet (readIs x) = SoughtWithin alphabet x
 AtomWithin alphabet (readIsNot x) = SoughtWithin alphabet x
-AtomWithin alphabet (counterIs n) = value n ≡ 0
-AtomWithin alphabet (counterIsNot n) = value n ≡ 0
+AtomWithin alphabet (counterIs n) = (value n ≡ 0) × (inForm (n .digits) ≡ true)
+AtomWithin alphabet (counterIsNot n) = (value n ≡ 0) × (inForm (n .digits) ≡ true)
 
 -- so in every atom of a condition
 unfoldable pub ConditionWithin : List ℕ → Condition → Type 0
@@ -197,6 +201,10 @@ number-within greatest n e =
     leb-true (value n) greatest
     (and-right (inForm (n .digits)) (leb (value n) greatest) (not-false _ (kept _ 7 (n .place) e)))
 
+number-form : (greatest : ℕ) (n : Number) → numberFaults greatest n ≡ [] → inForm (n .digits) ≡ true
+unfolding numberFaults
+number-form greatest n e = and-first (inForm (n .digits)) (leb (value n) greatest) (not-false _ (kept _ 7 (n .place) e))
+
 sought-within : (alphabet : List ℕ) (x : Sought) → soughtFaults alphabet x ≡ [] → SoughtWithin alphabet x
 unfolding soughtFaults SoughtWithin
 sought-within alphabet (letter l) e = isIn-mem (l .byte) alphabet (not-false _ (kept _ 6 (l .place) e))
@@ -207,8 +215,8 @@ atom-within : (alphabet : List ℕ) (a : Atom) → atomFaults alphabet a ≡ [] 
 unfolding atomFaults AtomWithin
 atom-within alphabet (readIs x) e = sought-within alphabet x e
 atom-within alphabet (readIsNot x) e = sought-within alphabet x e
-atom-within alphabet (counterIs n) e = omega (arith, number-within 0 n e)
-atom-within alphabet (counterIsNot n) e = omega (arith, number-within 0 n e)
+atom-within alphabet (counterIs n) e = (omega (arith, number-within 0 n e), number-form 0 n e)
+atom-within alphabet (counterIsNot n) e = (omega (arith, number-within 0 n e), number-form 0 n e)
 
 condition-within :
     (alphabet : List ℕ) (opened : ℕ) (c : Condition) → conditionFaults alphabet opened c ≡ [] → ConditionWithin alphabet c

@@ -1,5 +1,7 @@
--- A refusal is one: of reasons that give at most one number and place each, the first that holds gives one number and place.
-use Prim.Native.Nat.{ℕ}
+-- A refusal is one: of reasons that give at most one number and place each, the first that holds gives one number and place. Where the
+-- reasons' numbers rise, it is the least number of those that hold.
+use Prim.Native.Nat.{ℕ, _≤_, _<_}
+use native.Mathlib.Omega.{arith}
 use mathlib.Core.Path.{_≡_, sym, _∙_}
 use mathlib.Core.Logic.{_⊎_, inl, inr}
 use mathlib.Core.List.{List, [], _∷_, _++_}
@@ -80,3 +82,28 @@ first-split n p (r ∷ rs) qs (inr a) = go (first-split n p rs qs (a .1))
     go : First rs n p ⊎ (None rs × First qs n p) → First (r ∷ rs) n p ⊎ (None (r ∷ rs) × First qs n p)
     go (inl front) = inl (inr (a .0, front))
     go (inr behind) = inr ((a .0, behind .0), behind .1)
+
+-- some reason of the list gives this number and place
+abbrev pub Some : List Reason → ℕ → ℕ → Type 0
+Some [] number place = ⊥
+Some (r ∷ rs) number place = r number place ⊎ Some rs number place
+
+-- the numbers rise: what a reason gives is below what each after it gives
+abbrev pub NumbersRise : List Reason → Type 0
+NumbersRise [] = Unit {0}
+NumbersRise (r ∷ rs) = Each (Gives (λ m q. (n p : ℕ) → r n p → n < m)) rs × NumbersRise rs
+
+-- what a reason of the list gives has Q, if each does
+some-has : (Q : ℕ → ℕ → Type 0) {n p : ℕ} (rs : List Reason) → Each (Gives Q) rs → Some rs n p → Q n p
+some-has Q (r ∷ rs) each (inl a) = each .0 _ _ a
+some-has Q (r ∷ rs) each (inr a) = some-has Q rs (each .1) a
+
+-- so the number that is given is the least of those that hold
+pub first-least
+    : (n m p q : ℕ) (rs : List Reason) → Each Single rs → NumbersRise rs → First rs n p → Some rs m q → n ≤ m
+unfolding First
+first-least n m p q (r ∷ rs) one rise (inl a) (inl b) = omega (arith, one .0 .number a b)
+first-least n m p q (r ∷ rs) one rise (inl a) (inr b) =
+    omega (arith, some-has (λ m q. (n p : ℕ) → r n p → n < m) rs (rise .0) b n p a)
+first-least n m p q (r ∷ rs) one rise (inr a) (inl b) = absurd (a .0 m q b)
+first-least n m p q (r ∷ rs) one rise (inr a) (inr b) = first-least n m p q rs (one .1) (rise .1) (a .1) b

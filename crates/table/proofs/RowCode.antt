@@ -1,8 +1,7 @@
 -- A row of the definitions is one row of the code.
-use mathlib.Core.Path.{_≡_, sym, _∙_}
+use mathlib.Core.Path.{_≡_}
 use Rattle.table.specs.declared.Row as Code
 use Rattle.table.specs.RowCode.{rowIs}
-use Rattle.table.specs.Table.{Row}
 
 -- `rowIs` is one-to-one: a promise of `rowIs r` leaves no second r
 pub row-once : {a b : Code.Row} → rowIs a ≡ rowIs b → a ≡ b

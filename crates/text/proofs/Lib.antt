@@ -11,3 +11,4 @@ pub mod Named
 pub mod Signed
 pub mod Once
 pub mod Follow
+pub mod Written

@@ -3,6 +3,13 @@
 use libc::STDERR_FILENO;
 use libc::STDOUT_FILENO;
 
+// A line that cannot be written is said on standard error: no line never means that all is well.
+fn shown(line: &[u8]) {
+    if !io::write_all(STDOUT_FILENO, line) {
+        os::fail(b"verdict: standard output");
+    }
+}
+
 fn usage() {
     io::write_all(
         STDERR_FILENO,
@@ -19,7 +26,7 @@ fn judge(image: &[u8; 8247], many: usize, word: &[u8], digits: &[u8]) {
         usage();
         return;
     }
-    io::write_all(STDOUT_FILENO, &line[..n]);
+    shown(&line[..n]);
 }
 
 // Judges with the image in a file.

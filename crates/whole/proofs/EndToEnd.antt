@@ -25,10 +25,10 @@ use Rattle.construction.specs.Compile.{CompilesTo}
 use Rattle.whole.specs.Grant.{Grants, SaysNo, SaysLimitMet, Asks, Deserves}
 use Rattle.whole.proofs.Granted.{delivers, delivers-only, granted, denied, denied-everywhere, met, verdict-asked}
 
-module _ {text buffer written : List ℕ} {n : ℕ} (compiled : CompilesTo text buffer written n) (length : n < 1000000) where
+module _ {text buffer written : List ℕ} {n : ℕ} (compiled : CompilesTo text buffer written n) (below : n < 1000000) where
   -- the text is a program of the language
   pub is-a-rule : (p : Program) × Reads text p
-  is-a-rule = let d = delivers compiled length in (d .program, d .reads)
+  is-a-rule = let d = delivers compiled below in (d .program, d .reads)
 
   module _
       {p : Program} (reads : Reads text p) {word marks marked : List ℕ} {limit result : ℕ}
@@ -36,25 +36,25 @@ module _ {text buffer written : List ℕ} {n : ℕ} (compiled : CompilesTo text 
     where
       -- yes, exactly
       pub dock-grants : Grants result ↔ Deserves p word limit marks
-      dock-grants = let d = delivers-only compiled length reads in granted (d .0) (d .1) judged
+      dock-grants = let d = delivers-only compiled below reads in granted (d .0) (d .1) judged
 
       -- no
       pub dock-says-no : SaysNo result → (height : ℕ) → ¬ ProgramAccepts p word height
-      dock-says-no = let d = delivers-only compiled length reads in denied-everywhere (d .0) (d .1) judged
+      dock-says-no = let d = delivers-only compiled below reads in denied-everywhere (d .0) (d .1) judged
 
       -- limit met
       pub dock-says-limit-met : SaysLimitMet result → ¬ ProgramAccepts p word limit
-      dock-says-limit-met said = let d = delivers-only compiled length reads in met (d .0) (d .1) judged .0 said .1
+      dock-says-limit-met said = let d = delivers-only compiled below reads in met (d .0) (d .1) judged .0 said .1
 
       -- one of the three
       pub dock-gives-verdict : (result < 4000000) ↔ Asks p word limit marks
-      dock-gives-verdict = let d = delivers-only compiled length reads in verdict-asked (d .0) (d .1) judged
+      dock-gives-verdict = let d = delivers-only compiled below reads in verdict-asked (d .0) (d .1) judged
 
       -- no and limit met, exactly: no run within the limit accepts, and they differ in whether a step of the rule's table would pass it
       pub dock-says-no-exactly
           : SaysNo result ↔ (Asks p word limit marks × (¬ ProgramAccepts p word limit) × (¬ Passes (construct p) word limit))
-      dock-says-no-exactly = let d = delivers-only compiled length reads in denied (d .0) (d .1) judged
+      dock-says-no-exactly = let d = delivers-only compiled below reads in denied (d .0) (d .1) judged
 
       pub dock-says-limit-met-exactly
           : SaysLimitMet result ↔ (Asks p word limit marks × (¬ ProgramAccepts p word limit) × Passes (construct p) word limit)
-      dock-says-limit-met-exactly = let d = delivers-only compiled length reads in met (d .0) (d .1) judged
+      dock-says-limit-met-exactly = let d = delivers-only compiled below reads in met (d .0) (d .1) judged

@@ -4,7 +4,7 @@ use native.Mathlib.Omega.{arith}
 use mathlib.Core.Path.{_≡_, refl, sym, _∙_, ap, subst}
 use mathlib.Core.Logic.{_↔_}
 use mathlib.Core.List.{List, _++_, List·Memᴰ}
-use lib.ListN.{length, getD, take, drop}
+use lib.ListN.{getD, take, drop}
 use lib.Seq.{take-append-seam}
 use Rattle.table.specs.Table.{Table}
 use Rattle.table.specs.WellFormed.{IsImage}
@@ -54,7 +54,7 @@ module _
     fits a = record {
       admitted = record {
         isImage = isImage;
-        short = a .short;
+        short = omega (arith, a .short);
         letters = λ i low. subst (List·Memᴰ (getD word i 0)) (sym (letters-same p)) (a .letters i low);
         low = a .low;
       };

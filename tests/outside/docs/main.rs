@@ -69,6 +69,11 @@ fn closed(lines: &[&str]) -> (String, usize) {
     (text, lines.len())
 }
 
+/// A long type stands on the lines behind its name.
+fn next_is_type(lines: &[&str], next: usize) -> bool {
+    lines.get(next).is_some_and(|line| line.trim_start().starts_with(": "))
+}
+
 fn read_antt(text: &str) -> File {
     let lines: Vec<&str> = text.lines().collect();
     let mut file = File::default();
@@ -113,7 +118,7 @@ fn read_antt(text: &str) -> File {
                     file.part_of.insert(first.to_string(), whole.clone());
                 }
             }
-        } else if open.is_none() && (second == Some(":") || (second.is_none() && trimmed.starts_with("pub "))) {
+        } else if open.is_none() && (second == Some(":") || (second.is_none() && next_is_type(&lines, n))) {
             current = first.to_string();
             file.declared.insert(current.clone());
         } else if open.is_none() && file.declared.contains(first) {

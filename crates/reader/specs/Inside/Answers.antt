@@ -6,24 +6,15 @@ use lib.ListN.{length, take, drop}
 use Rattle.text.specs.Token as Spelt
 use Rattle.text.specs.Tokens.{Placed, _at_, Ending, Tokens}
 use Rattle.text.specs.declared.Token.{Token}
-use Rattle.text.specs.declared.Token.the-variants as Token
 use Rattle.rule.specs.Inside.Class.{Class, classify}
 use Rattle.rule.specs.Inside.Machine.{Stack, Totals, Outcome, taken, refused, run}
+use Rattle.reader.specs.Atom.{refusalOf}
 use Rattle.reader.specs.declared.answers.Counts.{Counts}
 use Rattle.reader.specs.declared.answers.Refusal.{Refusal}
 use Rattle.reader.specs.declared.answers.Read.{Read}
 use Rattle.reader.specs.declared.answers.Read.the-variants.{Went, Refused}
 use Rattle.reader.specs.declared.letters.Letters.{Letters}
 use Rattle.reader.specs.declared.settings.Settings.{Settings}
-
--- the refusal of a token with which no program goes on: 4, or 3 where it is broken
-abbrev pub refusalOf : Token → Refusal
-refusalOf (Token.Word place end x) = record { number = 4; place = place }
-refusalOf (Token.Number place end) = record { number = 4; place = place }
-refusalOf (Token.Letter place end b) = record { number = 4; place = place }
-refusalOf (Token.Sign place end x) = record { number = 4; place = place }
-refusalOf (Token.End place) = record { number = 4; place = place }
-refusalOf (Token.Broken place) = record { number = 3; place = place }
 
 -- a token of this class stands at a place, the first from a byte on, and the text goes on behind it
 pub record Front (text : List ℕ) (from : ℕ) (k : Class) (place end : ℕ) : Type 0 where

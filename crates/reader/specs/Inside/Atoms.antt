@@ -12,19 +12,22 @@ use Rattle.text.specs.declared.Token.{Token}
 use Rattle.text.specs.declared.Token.the-variants as Token
 use Rattle.rule.specs.Tree as Tree
 use Rattle.rule.specs.Grammar.{Ts, IsAtom}
-use Rattle.rule.specs.Limits.{atomFaults}
+use Rattle.rule.specs.Limits.{isIn, numberFaults}
 use Rattle.rule.specs.Inside.Machine.{Symbol, Totals}
+use Rattle.reader.specs.Atom.{refusalOf}
 use Rattle.reader.specs.Inside.Answers.{spot, Stops}
 use Rattle.reader.specs.declared.atoms.Symbol.{Symbol as Sought}
 use Rattle.reader.specs.declared.atoms.Symbol.the-variants as Sought
 use Rattle.reader.specs.declared.atoms.Atom.{Atom}
 use Rattle.reader.specs.declared.atoms.Atom.the-variants as Atom
+use Rattle.reader.specs.declared.atoms.Stray.{Stray}
+use Rattle.reader.specs.declared.atoms.Stray.the-variants as Stray
 use Rattle.reader.specs.declared.atoms.AtomRead.{AtomRead}
 use Rattle.reader.specs.declared.atoms.AtomRead.the-variants.{Found, Refused}
 
 -- an atom of the code is this one of the tree
 abbrev pub symbolOf : Tree.Sought → Sought
-symbolOf (Tree.letter l) = Sought.Letter (l .byte)
+symbolOf (Tree.letter l) = Sought.Letter (l .byte) (l .place)
 symbolOf Tree.lend = Sought.Lend
 symbolOf Tree.rend = Sought.Rend
 
@@ -38,6 +41,29 @@ atomOf (Tree.counterIsNot n) = Atom.Counter false
 abbrev pub rowsOf : ℕ → Atom → ℕ
 rowsOf k (Atom.Read equal x) = k + 2
 rowsOf k (Atom.Counter zero) = 2
+
+-- where an atom's letter stands, if it is outside the alphabet
+abbrev pub strayOf : List ℕ → Atom → Stray
+strayOf a (Atom.Read equal (Sought.Letter b p)) = elim (isIn b a) [ true ↦ Stray.Nowhere | false ↦ Stray.At p ]
+strayOf a (Atom.Read equal Sought.Lend) = Stray.Nowhere
+strayOf a (Atom.Read equal Sought.Rend) = Stray.Nowhere
+strayOf a (Atom.Counter zero) = Stray.Nowhere
+
+-- the number that the counter is compared with is 0
+abbrev pub Zeroed : Tree.Atom → Type 0
+Zeroed (Tree.readIs x) = Unit {0}
+Zeroed (Tree.readIsNot x) = Unit {0}
+Zeroed (Tree.counterIs n) = numberFaults 0 n ≡ []
+Zeroed (Tree.counterIsNot n) = numberFaults 0 n ≡ []
+
+-- a letter that `read` is compared with, and a token that is none
+abbrev pub letterOf : Bool → Token → AtomRead
+letterOf equal (Token.Word p q x) = Refused (refusalOf (Token.Word p q x))
+letterOf equal (Token.Number p q) = Refused (refusalOf (Token.Number p q))
+letterOf equal (Token.Letter p q b) = Found (Atom.Read equal (Sought.Letter b p)) q
+letterOf equal (Token.Sign p q x) = Refused (refusalOf (Token.Sign p q x))
+letterOf equal (Token.End p) = Refused (refusalOf (Token.End p))
+letterOf equal (Token.Broken p) = Refused (refusalOf (Token.Broken p))
 
 -- the sign of a comparison
 abbrev pub compared : Bool → Spelt.Token
@@ -63,7 +89,7 @@ pub record NoSign (text : List ℕ) (from : ℕ) : Type 0 where
   pub none : isSign token ≡ false
 
 -- the tokens from one byte to another, behind some others, are an atom
-pub record IsFound (text : List ℕ) (from : ℕ) (alphabet : List ℕ) (lead : Ts → Ts) (atom : Atom) (to : ℕ) : Type 0 where
+pub record IsFound (text : List ℕ) (from : ℕ) (lead : Ts → Ts) (atom : Atom) (to : ℕ) : Type 0 where
   pub before : List Placed
   pub after : List Placed
   pub ending : Ending
@@ -71,15 +97,15 @@ pub record IsFound (text : List ℕ) (from : ℕ) (alphabet : List ℕ) (lead : 
   pub there : Tokens to (drop to text) after ending
   pub tree : Tree.Atom
   pub derived : IsAtom (lead before) tree after
-  pub within : atomFaults alphabet tree ≡ []
+  pub zeroed : Zeroed tree
   pub is : atom ≡ atomOf tree
   pub forth : from < to
   pub inside : to ≤ length text
 
-abbrev pub TestsRight : List ℕ → ℕ → List ℕ → (Ts → Ts) → Symbol → AtomRead → Type 0
-TestsRight text from alphabet lead x (Found atom to) = IsFound text from alphabet lead atom to
-TestsRight text from alphabet lead x (Refused r) = (t : Totals) → t .alphabet ≡ alphabet → Stops text (spot from (x ∷ []) t) r
+abbrev pub TestsRight : List ℕ → ℕ → (Ts → Ts) → Symbol → AtomRead → Type 0
+TestsRight text from lead x (Found atom to) = IsFound text from lead atom to
+TestsRight text from lead x (Refused r) = (t : Totals) → Stops text (spot from (x ∷ []) t) r
 
--- behind these tokens stands an atom, or else the machine, which expects this, refuses
-pub record Tests (text : List ℕ) (from : ℕ) (alphabet : List ℕ) (lead : Ts → Ts) (x : Symbol) (r : AtomRead) : Type 0 where
-  pub right : TestsRight text from alphabet lead x r
+-- behind these tokens stands an atom, whatever letter it has, or else the machine, which expects this, refuses
+pub record Tests (text : List ℕ) (from : ℕ) (lead : Ts → Ts) (x : Symbol) (r : AtomRead) : Type 0 where
+  pub right : TestsRight text from lead x r

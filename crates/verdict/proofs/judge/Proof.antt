@@ -19,11 +19,11 @@ returns c = search needs
 array-share-prefix-line : tie.Need-array-share-prefix-line
 array-share-prefix-line c = word-counts (c .before .judge-word .ensures) .0
 
-slice-aggregate-write-all : tie.Need-slice-aggregate-write-all
-slice-aggregate-write-all c = word-counts (c .before .before .judge-word .ensures) .1
+slice-aggregate-shown : tie.Need-slice-aggregate-shown
+slice-aggregate-shown c = word-counts (c .before .before .judge-word .ensures) .1
 
-write-all-requires : tie.Need-write-all-requires
-write-all-requires c κs = search needs
+shown-requires : tie.Need-shown-requires
+shown-requires c κs = search needs
 
 returns-2 : tie.Need-returns-2
 returns-2 c = search needs
@@ -37,6 +37,6 @@ judge-spec =
     usage-requires
     returns
     array-share-prefix-line
-    slice-aggregate-write-all
-    write-all-requires
+    slice-aggregate-shown
+    shown-requires
     returns-2)

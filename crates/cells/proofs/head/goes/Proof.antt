@@ -29,6 +29,7 @@ use denote.Triple.Statement.{Triple}
 use denote.Triple.Spec.{tripleOf}
 use denote.Triple.Table.{entered, cited}
 use Rattle.cells.specs.Cell.{moved}
+use Rattle.cells.specs.Head.{Moves}
 use Rattle.cells.specs.declared.head.Head.{Head}
 use Rattle.cells.proofs.Walks.{Walk, Walked, begins, asks, ends, meets}
 use Rattle.cells.proofs.Heads.{WordAt, head-tells, head-typed, On, By}
@@ -72,7 +73,7 @@ module _ {M : Type 1} (𝓤 : URA M) (H : Heap 𝓤) (A : Atoms 𝓤) (W : Given
       (and-then ! (load ! (from ! (stop !)) (look ! 10 refl)) (and-then ! (load ! (from ! (stop !)) (look ! 6 refl)) (no-more !))) (λ u h e h-is.
       land ! (from ! (stop !)) (init ! 3 refl (head-typed 𝓤 H A W κ h erased u h-is)) $ nothing ! $ move ! (3 ∷ 0 ∷ []) $ fjoin ! $ move ! (1 ∷ 0 ∷ []) $ fjoin ! $ move ! (1 ∷ 0 ∷ []) $
       -- [the token; what the head and the code own; _5; …; room for _4; …; _3; …; _2; …; _1; …; room for _0; …]
-      asks ! fm moves.ended (moves.clauses 𝓤 H A mem run) known-by (to-by h u) (id⊢ 𝓤 (emp 𝓤)) (λ (r : Head). (r .word ≡ h .word) × (r .cell ≡ moved (now (h .word)) c (h .cell))) (λ r ws. id⊢ 𝓤 _)
+      asks ! fm moves.ended (moves.clauses 𝓤 H A mem run) known-by (to-by h u) (id⊢ 𝓤 (emp 𝓤)) (Moves c h) (λ r ws. id⊢ 𝓤 _)
       (and-then ! (load ! (from ! (stop !)) (look ! 1 refl)) (and-then ! (load ! (from ! (stop !)) (look ! 7 refl)) (no-more !))) (λ u′ r e′ r-is.
       -- [what the new head owns; the token; _5; …; room for _4; …; _3; …; _2; …; _1; …; room for _0; …]
       land ! (from ! (stop !)) (init ! 4 refl (head-typed 𝓤 H A W κ r erased u′ r-is)) $ rewrite ! 4 (λ (w : Val). ‵ (fat fullShare (T′.mir erased) l₄ 0 w)) (ap only (head-tells (κ, tt) r _ r-is)) refl $

@@ -1,7 +1,7 @@
 -- `rule::answers::refuse` meets its contract, by the cases of the token.
 use borrow.Author.Needs.{needs}
 use mathlib.Core.Path.{sym, ap}
-use Rattle.reader.specs.Inside.Answers.{refusalOf}
+use Rattle.reader.specs.Atom.{refusalOf}
 use Rattle.reader.proofs.answers.refuse.Statement.{statement}
 use Rattle.reader.proofs.answers.refuse.Tie as tie
 

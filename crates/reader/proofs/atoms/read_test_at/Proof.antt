@@ -1,7 +1,9 @@
--- `rule::atoms::read_test_at` meets its contract.
+-- `reader::atoms::read_test_at` meets its contract.
 use mathlib.Core.Path.{refl}
+use Rattle.reader.specs.Atom.{same, differs}
 use Rattle.reader.proofs.Front.{told-sign}
 use Rattle.reader.proofs.Tested.{test-refuses, test-refuses-sign, test-on}
+use Rattle.reader.proofs.Said.{next-sign, next-other, no-comparison, other-sign}
 use borrow.Author.Needs.{needs}
 use Rattle.reader.proofs.atoms.read_test_at.Statement.{statement}
 use Rattle.reader.proofs.atoms.read_test_at.Tie as tie
@@ -16,7 +18,12 @@ refuse-requires : tie.Need-refuse-requires
 refuse-requires c κs = search needs
 
 returns : tie.Need-returns
-returns c = λ p. test-refuses (c .before .before .token-at .ensures) (λ t. c .before .match .keys2) (c .refuse .ensures)
+returns c =
+    let first = c .before .before .token-at .ensures in
+    let left = c .before .match .keys2 in (
+      λ p. test-refuses first (λ t. left) (c .refuse .ensures),
+      next-other first _ refl (no-comparison _ left) (c .refuse .ensures),
+    )
 
 enum-told : tie.Need-enum-told
 enum-told c = search needs
@@ -35,31 +42,30 @@ refuse-requires-2 c κs = search needs
 
 returns-2 : tie.Need-returns-2
 returns-2 c =
-    λ p.
-    test-on
-    (told-sign (c .before .before .before .before .before .before .token-at .ensures) (c .before .before .before .before .token .given .1) (c .before .enum-told .given .1))
-    _
-    (λ t. refl)
-    (λ t. refl)
-    (λ t. refl)
-    (λ t. refl)
-    (c .symbol-at .ensures p (c .before .before .before .before .token .given .0 .0))
+    let first = c .before .before .before .before .before .before .token-at .ensures in
+    let is = c .before .before .before .before .token .given .1 in
+    let told = c .before .enum-told .given .1 in (
+      λ p. test-on (told-sign first is told) _ (λ t. refl) (λ t. refl) (λ t. refl) (c .symbol-at .ensures .0 p (c .before .before .before .before .token .given .0 .0)),
+      next-sign first _ is told same (c .symbol-at .ensures .1),
+    )
 
 returns-3 : tie.Need-returns-3
 returns-3 c =
-    λ p.
-    test-on
-    (told-sign (c .before .before .before .before .before .before .token-at .ensures) (c .before .before .before .before .token .given .1) (c .before .enum-told2 .given .1))
-    _
-    (λ t. refl)
-    (λ t. refl)
-    (λ t. refl)
-    (λ t. refl)
-    (c .symbol-at2 .ensures p (c .before .before .before .before .token .given .0 .0))
+    let first = c .before .before .before .before .before .before .token-at .ensures in
+    let is = c .before .before .before .before .token .given .1 in
+    let told = c .before .enum-told2 .given .1 in (
+      λ p. test-on (told-sign first is told) _ (λ t. refl) (λ t. refl) (λ t. refl) (c .symbol-at2 .ensures .0 p (c .before .before .before .before .token .given .0 .0)),
+      next-sign first _ is told differs (c .symbol-at2 .ensures .1),
+    )
 
 returns-4 : tie.Need-returns-4
 returns-4 c =
-    λ p. test-refuses-sign (c .before .before .before .before .before .token-at .ensures) (c .before .before .before .token .given .1) (λ t. c .before .match2 .keys3) (c .refuse2 .ensures)
+    let first = c .before .before .before .before .before .token-at .ensures in
+    let is = c .before .before .before .token .given .1 in
+    let left = c .before .match2 .keys3 in (
+      λ p. test-refuses-sign first is (λ t. left) (c .refuse2 .ensures),
+      next-other first _ is (other-sign _ left) (c .refuse2 .ensures),
+    )
 
 pub read-test-at-spec : {M : Type 1} → statement M
 read-test-at-spec =

@@ -1,9 +1,11 @@
--- `rule::atoms::zero_at` meets its contract.
+-- `reader::atoms::zero_at` meets its contract.
 use native.Mathlib.Omega.{arith}
 use mathlib.Core.Path.{refl, sym, _∙_}
 use Rattle.rule.proofs.Digits.{number-digits}
 use Rattle.reader.proofs.Front.{front-number}
+use Rattle.reader.specs.Atom.{aNumber}
 use Rattle.reader.proofs.Tested.{test-refuses, test-breaks, zero-found}
+use Rattle.reader.proofs.Said.{next-stands, next-other, no-numeral, zero-read, number-refused}
 use borrow.Author.Needs.{needs}
 use Rattle.reader.proofs.atoms.zero_at.Statement.{statement}
 use Rattle.reader.proofs.atoms.zero_at.Tie as tie
@@ -18,7 +20,12 @@ refuse-requires : tie.Need-refuse-requires
 refuse-requires c κs = search needs
 
 returns : tie.Need-returns
-returns c = λ a p q. test-refuses (c .before .before .token-at .ensures) (λ t. c .before .match .keys2) (c .refuse .ensures)
+returns c =
+    let first = c .before .before .token-at .ensures in
+    let left = c .before .match .keys2 in (
+      λ p q. test-refuses first (λ t. left) (c .refuse .ensures),
+      next-other first _ refl (no-numeral _ left) (c .refuse .ensures),
+    )
 
 sub-out-of-range : tie.Need-sub-out-of-range
 sub-out-of-range c =
@@ -40,23 +47,22 @@ out-of-range-requires c κs = number-digits (c .before .before .before .before .
 
 returns-2 : tie.Need-returns-2
 returns-2 c =
-    λ a p q.
-    test-breaks
-    (front-number (c .before .before .before .before .before .before .token-at .ensures) (c .before .before .before .before .token .given .1))
-    _
-    (λ t. refl)
-    (λ t e. sym (c .before .out-of-range .ensures) ∙ c .if1 .taken)
-    (λ t. refl)
+    let first = c .before .before .before .before .before .before .token-at .ensures in
+    let is = c .before .before .before .before .token .given .1 in
+    let out = sym (c .before .out-of-range .ensures) ∙ c .if1 .taken in (
+      λ p q. test-breaks (front-number first is) _ (λ t. refl) (λ t. out) (λ t. refl),
+      next-stands first _ _ is aNumber (number-refused _ _ _ out),
+    )
 
 returns-3 : tie.Need-returns-3
 returns-3 c =
-    λ a p q.
-    zero-found
-    (c .before .before .before .before .before .before .before .before .args .equal)
-    p
-    q
-    (front-number (c .before .before .before .before .before .before .token-at .ensures) (c .before .before .before .before .token .given .1))
-    (sym (c .before .out-of-range .ensures) ∙ c .if1 .left)
+    let equal = c .before .before .before .before .before .before .before .before .args .equal in
+    let first = c .before .before .before .before .before .before .token-at .ensures in
+    let is = c .before .before .before .before .token .given .1 in
+    let fits = sym (c .before .out-of-range .ensures) ∙ c .if1 .left in (
+      λ p q. zero-found equal p q (front-number first is) fits,
+      next-stands first _ _ is aNumber (zero-read _ _ _ fits),
+    )
 
 pub zero-at-spec : {M : Type 1} → statement M
 zero-at-spec =

@@ -677,10 +677,10 @@ abbrev statements-at-claims : ℕ → statements-at-lts.Claims
 statements-at-claims t = (
   token-at-reads.Asked,
   token-at-reads.Learnt,
-  refuse-reads.Asked,
-  refuse-reads.Learnt,
   statement-at-below t,
   statement-at.Post,
+  refuse-reads.Asked,
+  refuse-reads.Learnt,
 )
 
 abbrev statements-at-Inv-loop : statements-at-lts.InvT-loop
@@ -703,20 +703,6 @@ statements-at-token-at-requires t c κs = search needs
 statements-at-enum-known-token : (t : ℕ) → statements-at-lts.Need-enum-known-token (statements-at-claims t) (statements-at-at t) statements-at.Post statements-at-Inv-loop statements-at-μ-loop
 statements-at-enum-known-token t c = search needs
 
-statements-at-enum-told : (t : ℕ) → statements-at-lts.Need-enum-told (statements-at-claims t) (statements-at-at t) statements-at.Post statements-at-Inv-loop statements-at-μ-loop
-statements-at-enum-told t c = search needs
-
-statements-at-refuse-requires : (t : ℕ) → statements-at-lts.Need-refuse-requires (statements-at-claims t) (statements-at-at t) statements-at.Post statements-at-Inv-loop statements-at-μ-loop
-statements-at-refuse-requires t c κs = search needs
-
-statements-at-returns : (t : ℕ) → statements-at-lts.Need-returns (statements-at-claims t) (statements-at-at t) statements-at.Post statements-at-Inv-loop statements-at-μ-loop
-statements-at-returns t c = onward (c .before .before .before .before .before .before .loop .inv .0) (refuses-sign (c .before .before .before .before .before .token-at .ensures) (c .before .before .before .token .given .1) (c .before .match2 .keys2) (c .refuse .ensures))
-
-statements-at-returns-2 : (t : ℕ) → statements-at-lts.Need-returns-2 (statements-at-claims t) (statements-at-at t) statements-at.Post statements-at-Inv-loop statements-at-μ-loop
-statements-at-returns-2 t c =
-    let f = told-sign (c .before .before .before .before .before .token-at .ensures) (c .before .before .before .token .given .1) (c .enum-told .given .1) in
-    onward (c .before .before .before .before .before .before .loop .inv .0) (step f refl refl refl (done (ready-on f (c .before .before .before .before .before .before .loop .inv .1))))
-
 statements-at-statement-at-requires : (t : ℕ) → statements-at-lts.Need-statement-at-requires (statements-at-claims t) (statements-at-at t) statements-at.Post statements-at-Inv-loop statements-at-μ-loop
 statements-at-statement-at-requires t c κs =
     let start = c .before .before .before .before in
@@ -726,11 +712,11 @@ statements-at-statement-at-requires t c κs =
 statements-at-enum-known-read : (t : ℕ) → statements-at-lts.Need-enum-known-read (statements-at-claims t) (statements-at-at t) statements-at.Post statements-at-Inv-loop statements-at-μ-loop
 statements-at-enum-known-read t c = search needs
 
-statements-at-enum-told-2 : (t : ℕ) → statements-at-lts.Need-enum-told-2 (statements-at-claims t) (statements-at-at t) statements-at.Post statements-at-Inv-loop statements-at-μ-loop
-statements-at-enum-told-2 t c = search needs
+statements-at-enum-told : (t : ℕ) → statements-at-lts.Need-enum-told (statements-at-claims t) (statements-at-at t) statements-at.Post statements-at-Inv-loop statements-at-μ-loop
+statements-at-enum-told t c = search needs
 
-statements-at-returns-3 : (t : ℕ) → statements-at-lts.Need-returns-3 (statements-at-claims t) (statements-at-at t) statements-at.Post statements-at-Inv-loop statements-at-μ-loop
-statements-at-returns-3 t c = onward (c .before .before .before .before .before .loop .inv .0) (stop [] (c .before .before .statement-at .ensures .answers) (c .enum-told2 .given .1))
+statements-at-returns : (t : ℕ) → statements-at-lts.Need-returns (statements-at-claims t) (statements-at-at t) statements-at.Post statements-at-Inv-loop statements-at-μ-loop
+statements-at-returns t c = onward (c .before .before .before .before .before .loop .inv .0) (stop [] (c .before .before .statement-at .ensures .answers) (c .enum-told .given .1))
 
 statements-at-loop-less : (t : ℕ) → statements-at-lts.Need-loop-less (statements-at-claims t) (statements-at-at t) statements-at.Post statements-at-Inv-loop statements-at-μ-loop
 statements-at-loop-less t c =
@@ -742,6 +728,20 @@ statements-at-loop-again t c =
     let ate = c .before .before .before .statement-at .ensures .answers in
     (comes-then (c .before .before .before .before .before .before .loop .inv .0) (went [] ate (c .before .read .given .1)), went-ready ate (c .before .read .given .1))
 
+statements-at-enum-told-2 : (t : ℕ) → statements-at-lts.Need-enum-told-2 (statements-at-claims t) (statements-at-at t) statements-at.Post statements-at-Inv-loop statements-at-μ-loop
+statements-at-enum-told-2 t c = search needs
+
+statements-at-refuse-requires : (t : ℕ) → statements-at-lts.Need-refuse-requires (statements-at-claims t) (statements-at-at t) statements-at.Post statements-at-Inv-loop statements-at-μ-loop
+statements-at-refuse-requires t c κs = search needs
+
+statements-at-returns-2 : (t : ℕ) → statements-at-lts.Need-returns-2 (statements-at-claims t) (statements-at-at t) statements-at.Post statements-at-Inv-loop statements-at-μ-loop
+statements-at-returns-2 t c = onward (c .before .before .before .before .before .before .loop .inv .0) (refuses-sign (c .before .before .before .before .before .token-at .ensures) (c .before .before .before .token .given .1) (c .before .match3 .keys2) (c .refuse .ensures))
+
+statements-at-returns-3 : (t : ℕ) → statements-at-lts.Need-returns-3 (statements-at-claims t) (statements-at-at t) statements-at.Post statements-at-Inv-loop statements-at-μ-loop
+statements-at-returns-3 t c =
+    let f = told-sign (c .before .before .before .before .before .token-at .ensures) (c .before .before .before .token .given .1) (c .enum-told2 .given .1) in
+    onward (c .before .before .before .before .before .before .loop .inv .0) (step f refl refl refl (done (ready-on f (c .before .before .before .before .before .before .loop .inv .1))))
+
 abbrev while-at-claims : ℕ → while-at-lts.Claims
 while-at-claims t = (
   token-at-reads.Asked,
@@ -750,10 +750,10 @@ while-at-claims t = (
   refuse-reads.Learnt,
   plus-reads.Asked,
   plus-reads.Learnt,
-  guarded-at-below t,
-  guarded-at.Post,
   block-at-below t,
   block-at.Post,
+  guarded-at-below t,
+  guarded-at.Post,
 )
 
 while-at-token-at-requires : (t : ℕ) → while-at-lts.Need-token-at-requires (while-at-claims t) (while-at-at t) while-at.Post
@@ -762,68 +762,70 @@ while-at-token-at-requires t c κs = search needs
 while-at-enum-known-token : (t : ℕ) → while-at-lts.Need-enum-known-token (while-at-claims t) (while-at-at t) while-at.Post
 while-at-enum-known-token t c = search needs
 
-while-at-enum-told : (t : ℕ) → while-at-lts.Need-enum-told (while-at-claims t) (while-at-at t) while-at.Post
-while-at-enum-told t c = search needs
+while-at-enum-known-token-2 : (t : ℕ) → while-at-lts.Need-enum-known-token-2 (while-at-claims t) (while-at-at t) while-at.Post
+while-at-enum-known-token-2 t c = search needs
 
 while-at-refuse-requires : (t : ℕ) → while-at-lts.Need-refuse-requires (while-at-claims t) (while-at-at t) while-at.Post
 while-at-refuse-requires t c κs = search needs
 
 while-at-returns : (t : ℕ) → while-at-lts.Need-returns (while-at-claims t) (while-at-at t) while-at.Post
-while-at-returns t c = refuses-sign (c .before .before .before .before .before .token-at .ensures) (c .before .before .before .token .given .1) (c .before .match2 .keys2) (c .refuse .ensures)
+while-at-returns t c =
+    let first = c .before .before .before .token-at .ensures in
+    refuses first (nor-sign (no-sign-first first (c .before .before .match .keys2)) first (c .before .match2 .keys2)) (c .refuse .ensures)
 
-while-at-plus-requires : (t : ℕ) → while-at-lts.Need-plus-requires (while-at-claims t) (while-at-at t) while-at.Post
-while-at-plus-requires t c κs = omega (arith, c .before .before .before .before .before .before .before .pre .1 .0)
-
-while-at-guarded-at-requires : (t : ℕ) → while-at-lts.Need-guarded-at-requires (while-at-claims t) (while-at-at t) while-at.Post
-while-at-guarded-at-requires t c κs =
-    let start = c .before .before .before .before .before .before .before .before in
-    let f = told-sign (c .before .before .before .before .before .before .token-at .ensures) (c .before .before .before .before .token .given .1) (c .before .enum-told .given .1) in
-    (omega (arith, start .pre .0, f .back, f .some, f .within), (ready-plus f (start .pre .1 .0) (c .plus .ensures) (omega arith) (omega arith), start .pre .1 .1))
-
-while-at-enum-known-token-2 : (t : ℕ) → while-at-lts.Need-enum-known-token-2 (while-at-claims t) (while-at-at t) while-at.Post
-while-at-enum-known-token-2 t c = search needs
-
-while-at-enum-told-2 : (t : ℕ) → while-at-lts.Need-enum-told-2 (while-at-claims t) (while-at-at t) while-at.Post
-while-at-enum-told-2 t c = search needs
+while-at-enum-told : (t : ℕ) → while-at-lts.Need-enum-told (while-at-claims t) (while-at-at t) while-at.Post
+while-at-enum-told t c = search needs
 
 while-at-refuse-requires-2 : (t : ℕ) → while-at-lts.Need-refuse-requires-2 (while-at-claims t) (while-at-at t) while-at.Post
 while-at-refuse-requires-2 t c κs = search needs
 
 while-at-returns-2 : (t : ℕ) → while-at-lts.Need-returns-2 (while-at-claims t) (while-at-at t) while-at.Post
-while-at-returns-2 t c = refuses-word (c .before .before .before .before .before .token-at .ensures) (c .before .before .before .token2 .given .1) (c .before .match3 .keys2) (c .refuse2 .ensures)
+while-at-returns-2 t c = refuses-word (c .before .before .before .before .before .before .token-at .ensures) (c .before .before .before .token2 .given .1) (c .before .match3 .keys2) (c .refuse2 .ensures)
 
-while-at-plus-requires-2 : (t : ℕ) → while-at-lts.Need-plus-requires-2 (while-at-claims t) (while-at-at t) while-at.Post
-while-at-plus-requires-2 t c κs = omega (arith, c .before .before .before .before .before .before .before .pre .1 .0)
+while-at-plus-requires : (t : ℕ) → while-at-lts.Need-plus-requires (while-at-claims t) (while-at-at t) while-at.Post
+while-at-plus-requires t c κs = omega (arith, c .before .before .before .before .before .before .before .before .pre .1 .0)
 
 while-at-block-at-requires : (t : ℕ) → while-at-lts.Need-block-at-requires (while-at-claims t) (while-at-at t) while-at.Post
 while-at-block-at-requires t c κs =
-    let start = c .before .before .before .before .before .before .before .before in
-    let f = told-word (c .before .before .before .before .before .before .token-at .ensures) (c .before .before .before .before .token2 .given .1) (c .before .enum-told2 .given .1) in
-    (omega (arith, start .pre .0, f .back, f .some, f .within), (ready-plus f (start .pre .1 .0) (c .plus2 .ensures) (omega arith) (omega arith), start .pre .1 .1))
-
-while-at-refuse-requires-3 : (t : ℕ) → while-at-lts.Need-refuse-requires-3 (while-at-claims t) (while-at-at t) while-at.Post
-while-at-refuse-requires-3 t c κs = search needs
+    let start = c .before .before .before .before .before .before .before .before .before in
+    let f = told-word (c .before .before .before .before .before .before .before .token-at .ensures) (c .before .before .before .before .token2 .given .1) (c .before .enum-told .given .1) in
+    (omega (arith, start .pre .0, f .back, f .some, f .within), (ready-plus f (start .pre .1 .0) (c .plus .ensures) (omega arith) (omega arith), start .pre .1 .1))
 
 while-at-returns-3 : (t : ℕ) → while-at-lts.Need-returns-3 (while-at-claims t) (while-at-at t) while-at.Post
 while-at-returns-3 t c =
     step
-    (told-sign (c .before .before .before .before .before .before .before .token-at .ensures) (c .before .before .before .before .before .token .given .1) (c .before .before .enum-told .given .1))
+    (told-word (c .before .before .before .before .before .before .before .before .token-at .ensures) (c .before .before .before .before .before .token2 .given .1) (c .before .before .enum-told .given .1))
     refl
     refl
     (counts-plus _ (c .before .plus .ensures))
-    (c .guarded-at .ensures)
+    (c .block-at .ensures)
+
+while-at-enum-told-2 : (t : ℕ) → while-at-lts.Need-enum-told-2 (while-at-claims t) (while-at-at t) while-at.Post
+while-at-enum-told-2 t c = search needs
+
+while-at-refuse-requires-3 : (t : ℕ) → while-at-lts.Need-refuse-requires-3 (while-at-claims t) (while-at-at t) while-at.Post
+while-at-refuse-requires-3 t c κs = search needs
 
 while-at-returns-4 : (t : ℕ) → while-at-lts.Need-returns-4 (while-at-claims t) (while-at-at t) while-at.Post
-while-at-returns-4 t c =
+while-at-returns-4 t c = refuses-sign (c .before .before .before .before .before .token-at .ensures) (c .before .before .before .token .given .1) (c .before .match4 .keys2) (c .refuse3 .ensures)
+
+while-at-plus-requires-2 : (t : ℕ) → while-at-lts.Need-plus-requires-2 (while-at-claims t) (while-at-at t) while-at.Post
+while-at-plus-requires-2 t c κs = omega (arith, c .before .before .before .before .before .before .before .pre .1 .0)
+
+while-at-guarded-at-requires : (t : ℕ) → while-at-lts.Need-guarded-at-requires (while-at-claims t) (while-at-at t) while-at.Post
+while-at-guarded-at-requires t c κs =
+    let start = c .before .before .before .before .before .before .before .before in
+    let f = told-sign (c .before .before .before .before .before .before .token-at .ensures) (c .before .before .before .before .token .given .1) (c .before .enum-told2 .given .1) in
+    (omega (arith, start .pre .0, f .back, f .some, f .within), (ready-plus f (start .pre .1 .0) (c .plus2 .ensures) (omega arith) (omega arith), start .pre .1 .1))
+
+while-at-returns-5 : (t : ℕ) → while-at-lts.Need-returns-5 (while-at-claims t) (while-at-at t) while-at.Post
+while-at-returns-5 t c =
     step
-    (told-word (c .before .before .before .before .before .before .before .token-at .ensures) (c .before .before .before .before .before .token2 .given .1) (c .before .before .enum-told2 .given .1))
+    (told-sign (c .before .before .before .before .before .before .before .token-at .ensures) (c .before .before .before .before .before .token .given .1) (c .before .before .enum-told2 .given .1))
     refl
     refl
     (counts-plus _ (c .before .plus2 .ensures))
-    (c .block-at .ensures)
-
-while-at-returns-5 : (t : ℕ) → while-at-lts.Need-returns-5 (while-at-claims t) (while-at-at t) while-at.Post
-while-at-returns-5 t c = refuses (c .before .before .token-at .ensures) (c .before .match .keys3) (c .refuse3 .ensures)
+    (c .guarded-at .ensures)
 
 pub +block-at+branch-at+guarded-at+if-at+statement-at+statements-at+while-at-spec :
     {M : Type 1} → statement M
@@ -947,33 +949,33 @@ pub +block-at+branch-at+guarded-at+if-at+statement-at+statements-at+while-at-spe
     (statements-at-loop-holds t)
     (statements-at-token-at-requires t)
     (statements-at-enum-known-token t)
-    (statements-at-enum-told t)
-    (statements-at-refuse-requires t)
-    (statements-at-returns t)
-    (statements-at-returns-2 t)
     (statements-at-statement-at-requires t)
     (statements-at-enum-known-read t)
-    (statements-at-enum-told-2 t)
-    (statements-at-returns-3 t)
+    (statements-at-enum-told t)
+    (statements-at-returns t)
     (statements-at-loop-less t)
-    (statements-at-loop-again t))
+    (statements-at-loop-again t)
+    (statements-at-enum-told-2 t)
+    (statements-at-refuse-requires t)
+    (statements-at-returns-2 t)
+    (statements-at-returns-3 t))
     λ t. while-at-lts.spec (while-at-claims t)
     (while-at-at t)
     while-at.Post
     (while-at-token-at-requires t)
     (while-at-enum-known-token t)
-    (while-at-enum-told t)
+    (while-at-enum-known-token-2 t)
     (while-at-refuse-requires t)
     (while-at-returns t)
-    (while-at-plus-requires t)
-    (while-at-guarded-at-requires t)
-    (while-at-enum-known-token-2 t)
-    (while-at-enum-told-2 t)
+    (while-at-enum-told t)
     (while-at-refuse-requires-2 t)
     (while-at-returns-2 t)
-    (while-at-plus-requires-2 t)
+    (while-at-plus-requires t)
     (while-at-block-at-requires t)
-    (while-at-refuse-requires-3 t)
     (while-at-returns-3 t)
+    (while-at-enum-told-2 t)
+    (while-at-refuse-requires-3 t)
     (while-at-returns-4 t)
+    (while-at-plus-requires-2 t)
+    (while-at-guarded-at-requires t)
     (while-at-returns-5 t)

@@ -1,0 +1,85 @@
+-- `reader::atoms::atom_from` meets its contract.
+use mathlib.Core.Path.{refl}
+use Rattle.reader.specs.Atom.{byRead, byC}
+use Rattle.reader.proofs.Front.{told-word}
+use Rattle.reader.proofs.Tested.{test-refuses, test-refuses-word, test-on, nor-sign}
+use Rattle.reader.proofs.Said.{next-word, next-other, no-test, other-word}
+use borrow.Author.Needs.{needs}
+use Rattle.reader.proofs.atoms.atom_from.Statement.{statement}
+use Rattle.reader.proofs.atoms.atom_from.Tie as tie
+
+token-at-requires : tie.Need-token-at-requires
+token-at-requires c κs = search needs
+
+enum-known-token : tie.Need-enum-known-token
+enum-known-token c = search needs
+
+refuse-requires : tie.Need-refuse-requires
+refuse-requires c κs = search needs
+
+returns : tie.Need-returns
+returns c =
+    let first = c .before .before .token-at .ensures in
+    let left = c .before .match .keys2 in (
+      λ none n. test-refuses first (λ t. nor-sign none first left) (c .refuse .ensures),
+      record { right = next-other first _ refl (no-test _ left) (c .refuse .ensures) },
+    )
+
+enum-told : tie.Need-enum-told
+enum-told c = search needs
+
+read-test-at-requires : tie.Need-read-test-at-requires
+read-test-at-requires c κs = search needs
+
+enum-told-2 : tie.Need-enum-told-2
+enum-told-2 c = search needs
+
+counter-test-at-requires : tie.Need-counter-test-at-requires
+counter-test-at-requires c κs = search needs
+
+refuse-requires-2 : tie.Need-refuse-requires-2
+refuse-requires-2 c κs = search needs
+
+returns-2 : tie.Need-returns-2
+returns-2 c =
+    let first = c .before .before .before .before .before .before .token-at .ensures in
+    let is = c .before .before .before .before .token .given .1 in
+    let told = c .before .enum-told .given .1 in (
+      λ none n. test-on (told-word first is told) _ (λ t. refl) (λ t. refl) (λ t. refl) (c .read-test-at .ensures .0 (c .before .before .before .before .token .given .0 .0)),
+      record { right = next-word first _ is told byRead (c .read-test-at .ensures .1) },
+    )
+
+returns-3 : tie.Need-returns-3
+returns-3 c =
+    let first = c .before .before .before .before .before .before .token-at .ensures in
+    let is = c .before .before .before .before .token .given .1 in
+    let told = c .before .enum-told2 .given .1 in (
+      λ none n. test-on (told-word first is told) _ (λ t. refl) (λ t. refl) (λ t. refl) (c .counter-test-at .ensures .0 (c .before .before .before .before .token .given .0 .0)),
+      record { right = next-word first _ is told byC (c .counter-test-at .ensures .1) },
+    )
+
+returns-4 : tie.Need-returns-4
+returns-4 c =
+    let first = c .before .before .before .before .before .token-at .ensures in
+    let is = c .before .before .before .token .given .1 in
+    let left = c .before .match2 .keys3 in (
+      λ none n. test-refuses-word first is (λ t. left) (c .refuse2 .ensures),
+      record { right = next-other first _ is (other-word _ left) (c .refuse2 .ensures) },
+    )
+
+pub atom-from-spec : {M : Type 1} → statement M
+atom-from-spec =
+    tie.close
+    (tie.spec
+    token-at-requires
+    enum-known-token
+    refuse-requires
+    returns
+    enum-told
+    read-test-at-requires
+    enum-told-2
+    counter-test-at-requires
+    refuse-requires-2
+    returns-2
+    returns-3
+    returns-4)
