@@ -1,4 +1,5 @@
-//! Document 01's sample rules with what it says of each, typed in from there.
+//! Document 01's samples, read from the file tests/samples, which says how they are written; and the errors that a volunteer would
+//! make, each on a rule where it shows.
 
 use crate::judge::Verdict;
 use std::ops::RangeInclusive;
@@ -6,58 +7,19 @@ use std::ops::RangeInclusive;
 /// What stands before a body.
 pub const H: &str = "alphabet=['a'];decr_on_zero=false;twoc(string)";
 
-pub const BAL: &str = "alphabet=['u','r'];decr_on_zero=false;twoc(string){move(1);while(read!=rend){if(read=='u'){c++;}else{c--;}move(1);}if(c==0){accept;}}";
-
-pub struct Rule {
+/// A sample, and what document 01 says of it.
+pub struct Sample {
     pub name: &'static str,
     pub text: String,
     /// The compile program's line; for some rules document 01 gives it only in part.
     pub line: &'static str,
+    pub image: Option<Vec<u8>>,
+    /// Rows by their number.
+    pub rows: Vec<(usize, Vec<u8>)>,
+    pub judged: Vec<Judged>,
 }
-
-/// The rules that compile.
-pub fn rules() -> Vec<Rule> {
-    let h = |name, body: &str, line| Rule { name, text: format!("{H}{body}"), line };
-    let mut lower_true = h("lower_true", "{c--;accept;}", "ok 3 1 47");
-    lower_true.text = lower_true.text.replace("false", "true");
-    vec![
-        h("empty", "{}", "ok 1 0 39"),
-        Rule { name: "bal", text: BAL.into(), line: "ok 14 19 192" },
-        h("accept", "{accept;}", "ok 2 0 39"),
-        h("move", "{move(1);}", "ok 2 1 47"),
-        h("lower_false", "{c--;accept;}", "ok 3 1 47"),
-        lower_true,
-        h("while_zero", "{while(c==0){}}", "ok 3 3 63"),
-        h("choose", "{while choose{c++;}}", "ok 4 4 71"),
-        h("choose_accept", "{while choose{c++;}accept;}", "ok 5 4 71"),
-        h("branch", "{branch{c++;}also{} if(c==0){accept;}}", "ok 9 9 111"),
-        h("if_and", "{if(read!='a'&&c==0){accept;}}", "ok 6 7 95"),
-        h("move_63", "{move(63);}", "ok 2 1 47"),
-    ]
-}
-
-/// The texts that are refused, with their line.
-pub fn refused() -> Vec<(String, &'static str)> {
-    let h = |body: &str| format!("{H}{body}");
-    vec![
-        (String::new(), "no 4 0"),
-        ("alphabet=['a','a'];".into(), "no 5 14"),
-        (h("{move(64);}"), "no 7 52"),
-        (h("{if(read=='b'){}}"), "no 6 56"),
-        (h("{c+1;}"), "no 3 48"),
-        (h("{"), "no 4 47"),
-    ]
-}
-
-/// The image of the rule "empty".
-pub const EMPTY_IMAGE: &str =
-    "01 0001 01  02 0001 61  03 0001 00  04 0002 0001  05 0010 00000000000000000000000000000000  06 0000";
-
-/// The only row of the rule "move".
-pub const MOVE_ROW: [u8; 8] = [0x00, 0x00, 0x12, 0x02, 0x41, 0x1F, 0x00, 0x01];
 
 pub struct Judged {
-    pub name: &'static str,
     pub word: &'static str,
     pub limits: RangeInclusive<usize>,
     pub verdict: Verdict,
@@ -65,25 +27,82 @@ pub struct Judged {
     pub count: Option<usize>,
 }
 
-pub fn judged() -> Vec<Judged> {
-    use Verdict::*;
-    let one = |name, word, limits, verdict, count| Judged { name, word, limits, verdict, count };
-    vec![
-        one("bal", "", 31..=31, Yes, Some(4)),
-        one("bal", "u", 0..=0, LimitMet, Some(4)),
-        one("bal", "ruu", 0..=31, No, None),
-        one("accept", "", 0..=0, Yes, Some(1)),
-        one("move", "", 0..=0, No, Some(2)),
-        one("lower_false", "", 0..=0, No, Some(1)),
-        one("lower_true", "", 0..=0, Yes, Some(2)),
-        one("while_zero", "", 0..=0, No, Some(2)),
-        one("choose", "", 3..=3, LimitMet, Some(15)),
-        one("choose_accept", "", 3..=3, Yes, Some(15)),
-        one("choose_accept", "", 0..=0, Yes, Some(3)),
-        one("branch", "", 0..=0, Yes, Some(5)),
-        one("branch", "", 1..=1, Yes, Some(9)),
-        one("if_and", "", 0..=0, Yes, Some(3)),
-    ]
+fn whole(written: &str) -> String {
+    if let Some(body) = written.strip_prefix('H') {
+        return format!("{H}{body}");
+    }
+    match written.strip_prefix('T') {
+        Some(body) => format!("{}{body}", H.replace("false", "true")),
+        None => written.into(),
+    }
+}
+
+fn bytes(hex: &str) -> Vec<u8> {
+    let digits: Vec<u32> = hex.chars().filter_map(|c| c.to_digit(16)).collect();
+    digits.chunks(2).map(|pair| (pair[0] * 16 + pair[1]) as u8).collect()
+}
+
+/// A word, a limit, a verdict and perhaps a count.
+fn judged(said: &'static str) -> Judged {
+    let (word, rest) = said.split_once(' ').expect("a word");
+    let (limit, rest) = rest.split_once(' ').expect("a limit");
+    let (verdict, count) = match rest.rsplit_once(' ').map(|(v, n)| (v, n.parse())) {
+        Some((verdict, Ok(count))) => (verdict, Some(count)),
+        _ => (rest, None),
+    };
+    Judged {
+        word: if word == "-" { "" } else { word },
+        limits: limit.parse().map_or(0..=31, |l| l..=l),
+        verdict: match verdict {
+            "yes" => Verdict::Yes,
+            "no" => Verdict::No,
+            "limit met" => Verdict::LimitMet,
+            other => panic!("the verdict {other}"),
+        },
+        count,
+    }
+}
+
+/// Every sample.
+pub fn samples() -> Vec<Sample> {
+    let mut samples: Vec<Sample> = Vec::new();
+    for line in include_str!("../samples").lines().filter(|l| !l.is_empty() && !l.starts_with('#')) {
+        let (what, said) = line.trim_start_matches('*').split_once(' ').unwrap_or((line, ""));
+        if what == "rule" {
+            let (name, text) = said.split_once(' ').unwrap_or((said, ""));
+            samples.push(Sample { name, text: whole(text), line: "", image: None, rows: Vec::new(), judged: Vec::new() });
+            continue;
+        }
+        let sample = samples.last_mut().expect("a rule first");
+        match what {
+            "line" => sample.line = said,
+            "image" => sample.image = Some(bytes(said)),
+            "row" => {
+                let (number, row) = said.split_once(' ').expect("a row's number");
+                sample.rows.push((number.parse().expect("a row's number"), bytes(row)));
+            }
+            "word" => sample.judged.push(judged(said)),
+            // the line says as much
+            "has" | "*compiles" => {}
+            other => panic!("tests/samples: a line that starts with {other}"),
+        }
+    }
+    samples
+}
+
+/// Those that compile.
+pub fn rules() -> Vec<Sample> {
+    samples().into_iter().filter(|s| s.line.starts_with("ok")).collect()
+}
+
+/// Those that are refused.
+pub fn refused() -> Vec<Sample> {
+    samples().into_iter().filter(|s| s.line.starts_with("no")).collect()
+}
+
+/// The rule that accepts balanced borrows and returns.
+pub fn bal() -> String {
+    samples().into_iter().find(|s| s.name == "bal").expect("BAL").text
 }
 
 /// A rule, a word and a limit on which an error that a volunteer would make in building this shows, with the right verdict.
@@ -127,59 +146,64 @@ mod tests {
     use crate::judge::{check, judge, MARKS};
     use crate::rule::read;
 
-    fn text(name: &str) -> String {
-        rules().into_iter().find(|r| r.name == name).unwrap().text
-    }
-
-    fn image(name: &str) -> Vec<u8> {
-        encode(&compile(text(name).as_bytes(), 8_246).unwrap())
+    fn image(text: &str) -> Vec<u8> {
+        encode(&compile(text.as_bytes(), 8_246).unwrap())
     }
 
     #[test]
     fn lines() {
         assert_eq!(H.len(), 46);
-        for rule in rules() {
-            assert_eq!(line(rule.text.as_bytes()), rule.line, "{}", rule.name);
-        }
-        for (text, expected) in refused() {
-            assert_eq!(line(text.as_bytes()), expected, "{text}");
+        assert_eq!((rules().len(), refused().len()), (12, 6));
+        for sample in samples() {
+            assert_eq!(line(sample.text.as_bytes()), sample.line, "{}", sample.name);
         }
     }
 
     #[test]
-    fn bytes() {
-        let digits: Vec<u8> = EMPTY_IMAGE.bytes().filter(|b| *b != b' ').collect();
-        let hex = |pair: &[u8]| u8::from_str_radix(std::str::from_utf8(pair).unwrap(), 16).unwrap();
-        assert_eq!(image("empty"), digits.chunks(2).map(hex).collect::<Vec<u8>>());
-        let rows = compile(text("move").as_bytes(), 8_246).unwrap().rows;
-        assert_eq!(rows.iter().map(row_bytes).collect::<Vec<_>>(), [MOVE_ROW]);
-        assert_eq!(image("move")[39..], MOVE_ROW);
+    fn bytes_of_images_and_rows() {
+        let (mut images, mut seen) = (0, 0);
+        for sample in rules() {
+            if let Some(expected) = &sample.image {
+                assert_eq!(image(&sample.text), *expected, "{}", sample.name);
+                images += 1;
+            }
+            let rows = compile(sample.text.as_bytes(), 8_246).unwrap().rows;
+            for (number, expected) in &sample.rows {
+                assert_eq!(row_bytes(&rows[*number]).to_vec(), *expected, "{}", sample.name);
+                assert!(image(&sample.text).ends_with(expected));
+                seen += 1;
+            }
+        }
+        assert_eq!((images, seen), (1, 1));
     }
 
     #[test]
     fn verdicts_and_counts() {
-        for sample in judged() {
-            let image = image(sample.name);
+        for sample in rules() {
+            let image = image(&sample.text);
             assert_eq!(check(&image), 1);
-            for limit in sample.limits.clone() {
-                let mut marks = vec![0xA5; MARKS];
-                let answer = judge(&image, sample.word.as_bytes(), limit as u64, &mut marks);
-                assert_eq!(answer / 1_000_000, sample.verdict as u64, "{} {:?} {limit}", sample.name, sample.word);
-                if let Some(count) = sample.count {
-                    assert_eq!(answer % 1_000_000, count as u64, "{} {:?} {limit}", sample.name, sample.word);
+            for said in &sample.judged {
+                let what = format!("{} on '{}'", sample.name, said.word);
+                for limit in said.limits.clone() {
+                    let mut marks = vec![0xA5; MARKS];
+                    let answer = judge(&image, said.word.as_bytes(), limit as u64, &mut marks);
+                    assert_eq!(answer / 1_000_000, said.verdict as u64, "{what} at {limit}");
+                    if let Some(count) = said.count {
+                        assert_eq!(answer % 1_000_000, count as u64, "{what} at {limit}");
+                    }
+                    let ones: u32 = marks[..MARKS / 2].iter().map(|b| b.count_ones()).sum();
+                    assert_eq!(answer % 1_000_000, u64::from(ones));
+                    assert!(marks[MARKS / 2..].iter().all(|b| *b == 0));
+                    let program = read(sample.text.as_bytes()).unwrap();
+                    assert_eq!(interpret(&program, said.word.as_bytes(), limit), said.verdict);
                 }
-                let ones: u32 = marks[..MARKS / 2].iter().map(|b| b.count_ones()).sum();
-                assert_eq!(answer % 1_000_000, u64::from(ones));
-                assert!(marks[MARKS / 2..].iter().all(|b| *b == 0));
-                let program = read(text(sample.name).as_bytes()).unwrap();
-                assert_eq!(interpret(&program, sample.word.as_bytes(), limit), sample.verdict);
             }
         }
     }
 
     #[test]
     fn refusals_of_the_judge_in_order() {
-        let good = image("bal");
+        let good = image(&bal());
         let mut marks = vec![0x5A; MARKS + 1];
         let long = [b'u'; 63];
         let mut ask = |image: &[u8], word: &[u8], limit: u64, length: usize| {

@@ -1,7 +1,7 @@
-//! The texts of tests/texts with their lines, and every byte alone and behind a program with the line worked out. What a text is
+//! The texts of tests/samples and tests/texts with their lines, and every byte alone and behind a program with the line worked out. What a text is
 //! written in is said in tests/texts/README.md.
 
-use crate::samples::H;
+use crate::samples::{samples, H};
 use std::path::Path;
 
 pub struct Case {
@@ -15,7 +15,7 @@ pub struct Case {
 /// The folder, for a program that runs in the repository's own folder.
 pub const FOLDER: &str = "tests/texts";
 
-/// Every case of every file there.
+/// The samples, and every case of every file there.
 pub fn cases(folder: &str) -> Result<Vec<Case>, String> {
     let mut files: Vec<_> = std::fs::read_dir(folder)
         .map_err(|error| format!("{folder}: {error}"))?
@@ -23,7 +23,10 @@ pub fn cases(folder: &str) -> Result<Vec<Case>, String> {
         .filter(|path| path.extension().is_some_and(|end| end == "texts"))
         .collect();
     files.sort();
-    let mut cases = Vec::new();
+    let mut cases: Vec<Case> = samples()
+        .into_iter()
+        .map(|s| Case { name: format!("the sample {}", s.name), line: s.line.into(), text: s.text.into() })
+        .collect();
     for file in files {
         cases.extend(cases_of(&file)?);
     }

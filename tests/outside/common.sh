@@ -68,3 +68,13 @@ build_program() {
   fi
   echo "$bin"
 }
+
+# words RULE COMMAND..: for each line beside a worked rule, COMMAND.. with the word, the limit and the verdict
+words() {
+  local rule=$1 word limit expected
+  shift
+  while read -r word limit expected; do
+    case $word in '#'* | '') continue ;; -) word= ;; esac
+    "$@" "$word" "$limit" "$expected"
+  done <"${rule%.rule}.words"
+}

@@ -98,15 +98,15 @@ impl Test {
 
     /// The samples: what document 01 says of their verdicts.
     fn samples(&mut self) -> Result<(), String> {
-        for (text, _) in samples::refused() {
-            self.compile(text.as_bytes(), IMAGE)?;
+        for sample in samples::refused() {
+            self.compile(sample.text.as_bytes(), IMAGE)?;
         }
-        for rule in samples::rules() {
-            let image = self.compile(rule.text.as_bytes(), IMAGE)?.ok_or("a sample was refused")?;
-            for sample in samples::judged().iter().filter(|s| s.name == rule.name) {
-                for limit in sample.limits.clone() {
-                    if self.judge(&image, sample.word.as_bytes(), limit) != sample.verdict as u64 {
-                        return Err(format!("the sample {} on '{}' at limit {limit}", sample.name, sample.word));
+        for sample in samples::rules() {
+            let image = self.compile(sample.text.as_bytes(), IMAGE)?.ok_or("a sample was refused")?;
+            for said in &sample.judged {
+                for limit in said.limits.clone() {
+                    if self.judge(&image, said.word.as_bytes(), limit) != said.verdict as u64 {
+                        return Err(format!("the sample {} on '{}' at limit {limit}", sample.name, said.word));
                     }
                 }
             }
@@ -210,7 +210,7 @@ fn run(test: &mut Test, seed: u64) -> Result<(), String> {
     test.errors()?;
     test.empty_body()?;
     test.stored()?;
-    test.every_small_change(samples::BAL.as_bytes())?;
+    test.every_small_change(samples::bal().as_bytes())?;
     test.every_small_change(EVERYTHING.as_bytes())?;
     let mut random = Random::new(seed);
     for _ in 0..number("CASES").unwrap_or(20_000) {

@@ -1,7 +1,7 @@
-//! Runs the compile program, which is named by the argument, on every text of tests/texts and on every byte alone and behind a
+//! Runs the compile program, which is named by the argument, on the samples, on every text of tests/texts and on every byte alone and behind a
 //! program, and compares what it prints with the line. Then on a few texts that come in pieces.
 
-use independent::samples::BAL;
+use independent::samples::bal;
 use independent::stored::{self, Case};
 use std::io::Write;
 use std::process::{Command, Stdio};
@@ -43,10 +43,11 @@ fn wrong(program: &str, case: &Case, piece: usize) -> Option<String> {
 
 /// Texts for a pipe that gives a few bytes at a time, as a slow writer does.
 fn in_pieces() -> Vec<Case> {
-    let long = format!("{BAL}{}", " ".repeat(4_097 - BAL.len()));
+    let bal = bal();
+    let long = format!("{bal}{}", " ".repeat(4_097 - bal.len()));
     let case = |name: &str, line: &str, text: &str| Case { name: name.into(), line: line.into(), text: text.into() };
     vec![
-        case("BAL in pieces", "ok 14 19 192", BAL),
+        case("BAL in pieces", "ok 14 19 192", &bal),
         case("4,096 bytes in pieces", "ok 14 19 192", &long[..4_096]),
         case("4,097 bytes in pieces", "no 1 0", &long),
     ]
