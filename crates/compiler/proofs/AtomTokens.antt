@@ -253,10 +253,10 @@ number-found {text} {p = p} equal n h zero =
     }
 
 -- where an atom stands that is within the limits, it is found
-pub atom-found : (alphabet : List ℕ) {text : List ℕ} {from : ℕ} {ts us : Ts} {a : Tree.Atom} {r : AtomRead}
+pub atom-found : (alphabet : List ℕ) {text : List ℕ} {from k : ℕ} {ts us : Ts} {a : Tree.Atom} {r : AtomRead}
     → AtomAt text from r
     → Here text from ts
-    → IsAtom ts a us
+    → IsAtom ts k a us
     → AtomWithin alphabet a
     → FoundAt text from us (atomOf a) r
 unfolding AtomWithin

@@ -206,7 +206,7 @@ module _ {text out : List ℕ} {place : Place} {to : ℕ} {h : Sheet} {accepting
       more-emitted f = emitted-as (more-here .is) (emitted-then first-arm (more-here .later) f)
 
 -- a branch is its arms, with a state to leave by
-branch-arms : {alphabet : List ℕ} {p next : ℕ} {ts us : Ts} {a : Statement} → Branch ts a us → Follows us → StatementWithin alphabet a → ArmsTask next alphabet p (next + 1) ts us (statementPart alphabet a p next)
+branch-arms : {alphabet : List ℕ} {p next k : ℕ} {ts us : Ts} {a : Statement} → Branch k ts a us → Follows us → StatementWithin alphabet a → ArmsTask next alphabet p (next + 1) ts us (statementPart alphabet a p next)
 unfolding statementPart armsPart StatementWithin ArmsWithin
 branch-arms {alphabet} {p} {next} {ts} {us} (arms {o = o} {b = b} {a = a} d e) follows within =
     let same : suc (next + 1) ≡ next + 2 = omega arith in

@@ -5,7 +5,7 @@ use native.Mathlib.Omega.{arith}
 use mathlib.Core.Path.{_≡_, refl, sym, _∙_, ap, subst, subst₂}
 use mathlib.Core.Bool.{not}
 use mathlib.Core.List.{List, [], _∷_, _++_, append-nil, append-assoc}
-use lib.ListN.{length}
+use lib.ListN.{length, drop}
 use lib.Dec.{T, eqb}
 use types.Run.{OneOf}
 use Rattle.text.specs.Token.{Token, word, w, s}
@@ -16,18 +16,18 @@ use Rattle.text.specs.declared.Word.the-variants as Word
 use Rattle.text.specs.declared.Sign.{Sign}
 use Rattle.text.specs.declared.Sign.the-variants as Sign
 use Rattle.table.specs.Table.{Row}
-use Rattle.rule.specs.Tree.{Statement}
-use Rattle.rule.specs.Grammar.{Ts, block}
-use Rattle.rule.proofs.Invert.{If, alone, orElse, statement-if, While, statement-while}
+use Rattle.rule.specs.Tree.{Statement, Rest}
+use Rattle.rule.specs.Grammar.{Ts, IsRest, nothing, else, block}
+use Rattle.rule.proofs.Invert.{If, statement-if, While, statement-while}
 use Rattle.rule.proofs.Invert as Invert
-use Rattle.rule.proofs.Within.{StatementWithin}
-use Rattle.construction.specs.Construction.{free, Part, test, ifPart, loopPart, andThen, statementPart, statementsPart}
+use Rattle.rule.proofs.Within.{StatementWithin, RestWithin}
+use Rattle.construction.specs.Construction.{free, Part, test, ifPart, loopPart, andThen, statementPart, restPart, statementsPart}
 use Rattle.compiler.specs.Writing.{Sheet, Filled, Room, Writes}
 use Rattle.compiler.specs.Seeing.{Here, Behind, SeenAs, Sees, Passes}
-use Rattle.compiler.specs.Emission.{At, Task, Doing, Emitted, rowsPart, TestTask, tests, EntryTask, chooses, asks, Follows, HeadedTask, RestTask, theRest, closedPart, BodyTask, aBody, ElseTask, noElse, anElse}
+use Rattle.compiler.specs.Emission.{At, Task, Doing, Emitted, rowsPart, TestTask, tests, EntryTask, chooses, asks, Follows, HeadedTask, RestTask, theRest, closedPart, BodyTask, aBody, ElseTask, anElse}
 use Rattle.compiler.specs.declared.Place.{Place}
 use Rattle.compiler.specs.declared.see.Seen.{Seen}
-use Rattle.construction.proofs.Counts.{test-next, statements-next}
+use Rattle.construction.proofs.Counts.{test-next, rest-next, statements-next}
 use Rattle.compiler.proofs.Tags.{wordTag, wordTags, none-of}
 use Rattle.compiler.proofs.Seeing.{here-some, seen-word, word-at}
 use Rattle.compiler.proofs.Emission.{
@@ -227,9 +227,23 @@ module _ {text out : List ℕ} {place : Place} {to start : ℕ} (enters : Passes
     body-emitted writes = emitted-as (body-here .is) (closing-emitted e body-below body-few body-fits writes)
 
 -- `else` and its block
+else-given : {to : ℕ} {alphabet : List ℕ} {p next k : ℕ} {ts us vs : Ts} {e : Rest}
+    → IsRest ts e us
+    → Follows us
+    → RestWithin alphabet e
+    → to < next
+    → ts ≡ (w "else" at k) ∷ vs
+    → BodyTask to alphabet p next vs us (closedPart (restPart alphabet e p next) to)
+unfolding restPart RestWithin
+else-given nothing follows within below is = absurd (follows .noElse _ _ is)
+else-given {to} {alphabet} {p} {next} {us = us} (else {b = b} d) follows within below is =
+    subst
+    (λ (xs : Ts). BodyTask to alphabet p next xs us (closedPart (statementsPart alphabet b p next) to))
+    (ap (drop 1) is)
+    (aBody d within below)
+
 else-block : {to : ℕ} {alphabet : List ℕ} {p next k : ℕ} {ts us : Ts} {part : Part} → ElseTask to alphabet p next ((w "else" at k) ∷ ts) us part → BodyTask to alphabet p next ts us part
-else-block (noElse follows below) = absurd (follows .noElse _ _ refl)
-else-block (anElse b) = b
+else-block (anElse d follows within below) = else-given d follows within below refl
 
 -- or neither
 record NoElse (to p next : ℕ) (ts us : Ts) (part : Part) : Type 0 where
@@ -242,8 +256,9 @@ no-else : {text : List ℕ} {from k e b : ℕ} {x : Word} {g : Sign} {to : ℕ} 
     → SeenAs text from ts x g b k e
     → OneOf (wordTags (14 ∷ [])) (wordTag x)
     → NoElse to p next ts us part
-no-else (noElse follows below) seen other = record { same = refl; below = below; is = refl }
-no-else {x = x} (anElse b) seen other =
+unfolding restPart
+no-else (anElse nothing follows within below) seen other = record { same = refl; below = below; is = refl }
+no-else {x = x} (anElse (else b) follows within below) seen other =
     absurd (none-of (wordTags (14 ∷ [])) (wordTag x) 14 tt other (ap wordTag (seen-word Word.Else seen refl)))
 
 module _ {text out : List ℕ} {place : Place} {to : ℕ} {t : Seen} (sees : Sees text (place .at) t)
@@ -305,11 +320,12 @@ pub record IfOf (alphabet : List ℕ) (p next : ℕ) (ts us : Ts) (part : Part) 
 if-rows : (a b c : List Row) (f : Row) → a ++ (b ++ (f ∷ c)) ≡ a ++ ((b ++ (f ∷ [])) ++ c)
 if-rows a b c f = ap (λ (xs : List Row). a ++ xs) (sym (append-assoc b (f ∷ []) c))
 
-if-case : {alphabet : List ℕ} {p next : ℕ} {ts us : Ts} {a : Statement} → If ts a us → Follows us → StatementWithin alphabet a → IfOf alphabet p next ts us (statementPart alphabet a p next)
+if-case : {alphabet : List ℕ} {p next k : ℕ} {ts us : Ts} {a : Statement} → If k ts a us → Follows us → StatementWithin alphabet a → IfOf alphabet p next ts us (statementPart alphabet a p next)
 unfolding statementPart ifPart andThen StatementWithin
-if-case {alphabet} {p} {next} (alone {c = c} {b = b} d e) follows (c-within, within) =
+if-case {alphabet} {p} {next} (If.asks {c = c} {b = b} {e = otherwise} d e f) follows (c-within, within, within′) =
     let asked = test alphabet c p (next + 1) (next + 2) (next + 3) in
     let yes = statementsPart alphabet b (next + 1) (asked .next) in
+    let no = restPart alphabet otherwise (next + 2) (yes .next) in
     let grown = test-next alphabet c p (next + 1) (next + 2) (next + 3) in
     let more = statements-next b alphabet (next + 1) (asked .next) in
     record {
@@ -320,33 +336,12 @@ if-case {alphabet} {p} {next} (alone {c = c} {b = b} d e) follows (c-within, wit
       failing = _;
       condition = tests d c-within (omega arith) (omega arith);
       block = aBody e within (omega (arith, grown));
-      otherwise = noElse follows (omega (arith, grown, more));
-      is = ap (λ (xs : List Row). record { rows = xs; accepting = yes .accepting ++ []; exit = next; next = yes .next })
-          (if-rows (asked .rows) (yes .rows) (free (next + 2) next ∷ []) (free (yes .exit) next));
-      first = omega (arith, grown);
-      second = omega (arith, more);
-      third = omega arith;
-    }
-if-case {alphabet} {p} {next} (orElse {c = c} {b = b} {b′ = b′} d e f) follows (c-within, within, within′) =
-    let asked = test alphabet c p (next + 1) (next + 2) (next + 3) in
-    let yes = statementsPart alphabet b (next + 1) (asked .next) in
-    let no = statementsPart alphabet b′ (next + 2) (yes .next) in
-    let grown = test-next alphabet c p (next + 1) (next + 2) (next + 3) in
-    let more = statements-next b alphabet (next + 1) (asked .next) in
-    record {
-      behind = _;
-      later = _;
-      asked = _;
-      holding = _;
-      failing = _;
-      condition = tests d c-within (omega arith) (omega arith);
-      block = aBody e within (omega (arith, grown));
-      otherwise = anElse (aBody f within′ (omega (arith, grown, more)));
+      otherwise = anElse f follows within′ (omega (arith, grown, more));
       is = ap (λ (xs : List Row). record { rows = xs; accepting = yes .accepting ++ no .accepting; exit = next; next = no .next })
           (if-rows (asked .rows) (yes .rows) (no .rows ++ (free (no .exit) next ∷ [])) (free (yes .exit) next));
       first = omega (arith, grown);
       second = omega (arith, more);
-      third = omega (arith, statements-next b′ alphabet (next + 2) (yes .next));
+      third = omega (arith, rest-next otherwise alphabet (next + 2) (yes .next));
     }
 
 module _ {text out : List ℕ} {place : Place} {h : Sheet} {accepting : List ℕ} {rows : List Row} {ts us : Ts} {part : Part}
@@ -491,7 +486,7 @@ pub record LoopOf (alphabet : List ℕ) (p next : ℕ) (ts us : Ts) (part : Part
   pub first : next + 2 ≤ entered .next
   pub second : entered .next ≤ body .next
 
-loop-case : {alphabet : List ℕ} {p next : ℕ} {ts us : Ts} {a : Statement} → p < next → While ts a us → StatementWithin alphabet a → LoopOf alphabet p next ts us (statementPart alphabet a p next)
+loop-case : {alphabet : List ℕ} {p next k : ℕ} {ts us : Ts} {a : Statement} → p < next → While k ts a us → StatementWithin alphabet a → LoopOf alphabet p next ts us (statementPart alphabet a p next)
 unfolding statementPart loopPart andThen StatementWithin
 loop-case {alphabet} {p} {next} taken (Invert.asks {c = c} {b = b} d e) (c-within, within) =
     let asked = test alphabet c p (next + 1) next (next + 2) in

@@ -182,7 +182,7 @@ past-sought sought depth aLetter = refl
 past-sought sought depth lend = refl
 past-sought sought depth rend = refl
 
-past-atom : {ts us : Ts} {a : Tree.Atom} (sought : Bool) (depth : ℕ) → IsAtom ts a us → ahead sought depth ts ≡ ahead sought depth us
+past-atom : {k : ℕ} {ts us : Ts} {a : Tree.Atom} (sought : Bool) (depth : ℕ) → IsAtom ts k a us → ahead sought depth ts ≡ ahead sought depth us
 unfolding ahead lookAt
 past-atom sought depth (readIs x) = past-sought sought depth x
 past-atom sought depth (readIsNot x) = past-sought sought depth x

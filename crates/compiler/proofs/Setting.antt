@@ -14,7 +14,7 @@ use Rattle.text.specs.declared.Word.the-variants as Word
 use Rattle.text.specs.declared.Sign.{Sign}
 use Rattle.text.specs.declared.Sign.the-variants as Sign
 use Rattle.table.specs.Image.{encode}
-use Rattle.rule.specs.Tree.{Letter, Program, letterBytes}
+use Rattle.rule.specs.Tree.{Letter, Order, Program, letterBytes}
 use Rattle.rule.specs.Grammar.{
   Ts,
   IsStatements,
@@ -189,12 +189,12 @@ module _ {text before out : List ℕ} {from place count : ℕ} {ts us : Ts} {l :
   so-far-all other = last sees sees′ (f .bytes) (f .letters) (f .here) (f .all) put more-counted other
 
 -- the truth that is told
-pub true-told : {text : List ℕ} {place from q : ℕ} {ts us : Ts} {d : Bool} {t : Seen}
+pub true-told : {text : List ℕ} {place from q v : ℕ} {ts us : Ts} {d : Bool} {t : Seen}
     → Passes text place 1 from
     → Sees text from t
     → t .word ≡ Word.True
     → Here text place ts
-    → IsDecrement ((w "decr_on_zero" at q) ∷ ts) d us
+    → IsDecrement ((w "decr_on_zero" at q) ∷ ts) d v us
     → true ≡ d
 true-told pass sees is here isTrue = refl
 true-told pass sees is here isFalse =
@@ -202,12 +202,12 @@ true-told pass sees is here isFalse =
     let tags : _≡_ {A = ℕ} 2 3 = ap wordTag (sym is ∙ seen-word Word.False (sees .stands _ (r .here)) refl) in
     absurd (omega arith)
 
-pub false-told : {text : List ℕ} {place from q : ℕ} {ts us : Ts} {d : Bool} {t : Seen}
+pub false-told : {text : List ℕ} {place from q v : ℕ} {ts us : Ts} {d : Bool} {t : Seen}
     → Passes text place 1 from
     → Sees text from t
     → OneOf (wordTags (2 ∷ [])) (wordTag (t .word))
     → Here text place ts
-    → IsDecrement ((w "decr_on_zero" at q) ∷ ts) d us
+    → IsDecrement ((w "decr_on_zero" at q) ∷ ts) d v us
     → false ≡ d
 false-told {t = t} pass sees other here isTrue =
     let r = pass .behind _ here (omega arith) in
@@ -219,13 +219,14 @@ record DecrementOf (ts us : Ts) (d : Bool) : Type 0 where
   pub place : ℕ
   pub rest : Ts
   pub is : ts ≡ (w "decr_on_zero" at place) ∷ rest
-  pub derived : IsDecrement ((w "decr_on_zero" at place) ∷ rest) d us
+  pub truth : ℕ
+  pub derived : IsDecrement ((w "decr_on_zero" at place) ∷ rest) d truth us
   pub long : 3 ≤ length rest
   pub ends : drop 3 rest ≡ us
 
-decrement-of : {ts us : Ts} {d : Bool} → IsDecrement ts d us → DecrementOf ts us d
-decrement-of isTrue = record { place = _; rest = _; is = refl; derived = isTrue; long = omega arith; ends = refl }
-decrement-of isFalse = record { place = _; rest = _; is = refl; derived = isFalse; long = omega arith; ends = refl }
+decrement-of : {v : ℕ} {ts us : Ts} {d : Bool} → IsDecrement ts d v us → DecrementOf ts us d
+decrement-of isTrue = record { place = _; rest = _; is = refl; truth = _; derived = isTrue; long = omega arith; ends = refl }
+decrement-of isFalse = record { place = _; rest = _; is = refl; truth = _; derived = isFalse; long = omega arith; ends = refl }
 
 -- the letters stand from a place on, and `decr_on_zero` behind them
 pub record LettersFirst (text out : List ℕ) (from : ℕ) (us : Ts) (l : List Letter) (d : Bool) : Type 0 where
@@ -236,7 +237,8 @@ pub record LettersFirst (text out : List ℕ) (from : ℕ) (us : Ts) (l : List L
   pub stand : LettersAt text from out ts after l
   pub long : 2 ≤ length after
   pub is : drop 2 after ≡ rest
-  pub derived : IsDecrement ((w "decr_on_zero" at place) ∷ rest) d us
+  pub truth : ℕ
+  pub derived : IsDecrement ((w "decr_on_zero" at place) ∷ rest) d truth us
   pub longer : 3 ≤ length rest
   pub ends : drop 3 rest ≡ us
 
@@ -248,14 +250,15 @@ pub record LettersLast (text out : List ℕ) (at₀ from : ℕ) (us : Ts) (l : L
   pub after : Ts
   pub middle : Ts
   pub here : Here text at₀ rest
-  pub derived : IsDecrement ((w "decr_on_zero" at place) ∷ rest) d middle
+  pub truth : ℕ
+  pub derived : IsDecrement ((w "decr_on_zero" at place) ∷ rest) d truth middle
   pub stand : LettersAt text from out ts after l
   pub long : 1 ≤ length after
   pub ends : drop 1 after ≡ us
 
 module _ {text out : List ℕ} {from : ℕ} {t : Seen} (sees : Sees text 0 t) where
-  first : {ts us : Ts} {l : List Letter} {d : Bool}
-      → IsSettings ts l d us
+  first : {v : ℕ} {ts us : Ts} {f : Order} {l : List Letter} {d : Bool}
+      → IsSettings ts f l d v us
       → Here text 0 ts
       → length l ≤ 16
       → imageRoom ≤ length out
@@ -273,6 +276,7 @@ module _ {text out : List ℕ} {from : ℕ} {t : Seen} (sees : Sees text 0 t) wh
         stand = record { end = u; here = r .here; letters = letters; few = few; room = room };
         long = omega (arith, ap length (o .is));
         is = ap (drop 1) (o .is);
+        truth = _;
         derived = o .derived;
         longer = o .long;
         ends = o .ends;
@@ -282,8 +286,8 @@ module _ {text out : List ℕ} {from : ℕ} {t : Seen} (sees : Sees text 0 t) wh
       let tags : _≡_ {A = ℕ} 0 1 = ap wordTag (sym is ∙ seen-word Word.DecrOnZero (sees .stands _ (subst (Here text 0) (o .is) here)) refl) in
       absurd (omega arith)
 
-  second : {ts us : Ts} {l : List Letter} {d : Bool}
-      → IsSettings ts l d us
+  second : {v : ℕ} {ts us : Ts} {f : Order} {l : List Letter} {d : Bool}
+      → IsSettings ts f l d v us
       → Here text 0 ts
       → length l ≤ 16
       → imageRoom ≤ length out
@@ -304,6 +308,7 @@ module _ {text out : List ℕ} {from : ℕ} {t : Seen} (sees : Sees text 0 t) wh
         after = (s ";" at v) ∷ after;
         middle = _;
         here = behind;
+        truth = _;
         derived = o .derived;
         stand = record { end = u; here = subst (Here text from) ends (r .here); letters = letters; few = few; room = room };
         long = omega arith;
@@ -357,7 +362,7 @@ record Opening (ts : Ts) (p : Program) : Type 0 where
   pub front : Ts
   pub rest : Ts
   pub close : ℕ
-  pub settings : IsSettings ts (p .alphabet) (p .stops) front
+  pub settings : IsSettings ts (p .first) (p .alphabet) (p .stops) (p .truth) front
   pub long : 5 ≤ length front
   pub is : drop 5 front ≡ rest
   pub body : IsStatements rest (p .body) ((s "}" at close) ∷ [])
@@ -377,6 +382,8 @@ module _ {text before : List ℕ} {states rows : ℕ} {p : Program} (fits : Fits
   settings-at =
       record {
         here = record { ending = _; tokens = fits .reads .ofText };
+        first = p .first;
+        truth = p .truth;
         settings = opens .settings;
         few = omega (arith, few, length-letterBytes (p .alphabet));
         room = fits .room;

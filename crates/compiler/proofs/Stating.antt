@@ -24,7 +24,7 @@ use Rattle.rule.proofs.Within.{StatementsWithin}
 use Rattle.construction.specs.Construction.{Part, andThen, statementPart, statementsPart}
 use Rattle.compiler.specs.Writing.{Sheet, Holds, Filled, Marks}
 use Rattle.compiler.specs.Seeing.{Here, SeenAs, Sees}
-use Rattle.compiler.specs.Emission.{At, Doing, Emitted, rowsPart, Follows, StatementTask, aStatement, HeadedTask, headed, Stops, RestTask, theRest, noElse}
+use Rattle.compiler.specs.Emission.{At, Doing, Emitted, rowsPart, Follows, StatementTask, aStatement, HeadedTask, headed, Stops, RestTask, theRest}
 use Rattle.compiler.specs.declared.Place.{Place}
 use Rattle.compiler.specs.declared.see.Seen.{Seen}
 use Rattle.construction.proofs.Counts.{statements-next}
@@ -167,8 +167,7 @@ branch-left (Grammar.plain Grammar.add) seen other = absurd (not-named Word.C re
 branch-left (Grammar.plain Grammar.subtract) seen other = absurd (not-named Word.C refl tt seen other)
 branch-left Grammar.accept seen other = absurd (not-named Word.Accept refl tt seen other)
 branch-left Grammar.reject seen other = absurd (not-named Word.Reject refl tt seen other)
-branch-left (Grammar.if c b) seen other = absurd (not-named Word.If refl tt seen other)
-branch-left (Grammar.ifElse c b b′) seen other = absurd (not-named Word.If refl tt seen other)
+branch-left (Grammar.if c b e) seen other = absurd (not-named Word.If refl tt seen other)
 branch-left (Grammar.while c b) seen other = absurd (not-named Word.While refl tt seen other)
 branch-left (Grammar.choose b) seen other = absurd (not-named Word.While refl tt seen other)
 branch-left (Grammar.branch b a) seen other = seen-word Word.Branch seen refl
@@ -200,8 +199,7 @@ statement-some (Grammar.plain Grammar.add) here = here-some here
 statement-some (Grammar.plain Grammar.subtract) here = here-some here
 statement-some Grammar.accept here = here-some here
 statement-some Grammar.reject here = here-some here
-statement-some (Grammar.if c b) here = here-some here
-statement-some (Grammar.ifElse c b b′) here = here-some here
+statement-some (Grammar.if c b e) here = here-some here
 statement-some (Grammar.while c b) here = here-some here
 statement-some (Grammar.choose b) here = here-some here
 statement-some (Grammar.branch b a) here = here-some here

@@ -93,11 +93,11 @@ headed-of (headed (aStatement d follows within)) =
     record { place = _; statement = _; derived = d; follows = follows; within = within; is = refl }
 
 -- the part of a plain statement, with its bound
-plain-part : (alphabet : List ℕ) (e : Plain) (p next : ℕ) → statementPart alphabet (Tree.plain e) p next ≡ stepPart (moveCode e) (changeCode e) p next
+plain-part : (alphabet : List ℕ) (k : ℕ) (e : Plain) (p next : ℕ) → statementPart alphabet (Tree.plain k e) p next ≡ stepPart (moveCode e) (changeCode e) p next
 unfolding statementPart
-plain-part alphabet e p next = refl
+plain-part alphabet k e p next = refl
 
-plain-within : (alphabet : List ℕ) {a : Statement} (e : Plain) → a ≡ Tree.plain e → StatementWithin alphabet a → PlainWithin e
+plain-within : (alphabet : List ℕ) {k : ℕ} {a : Statement} (e : Plain) → a ≡ Tree.plain k e → StatementWithin alphabet a → PlainWithin e
 unfolding StatementWithin
 plain-within alphabet e is within = subst (StatementWithin alphabet) is within
 
@@ -109,14 +109,14 @@ record PlainTask (kind : Ts → Plain → Ts → Type 0) (p next : ℕ) (ts us :
 
 plain-task : {kind : Ts → Plain → Ts → Type 0} {head : Token} {alphabet : List ℕ} {p next : ℕ} {ts us : Ts} {part : Part}
     → (h : HeadedOf head alphabet p next ts us part)
-    → PlainOf kind ts (h .statement) us
+    → PlainOf kind (h .place) ts (h .statement) us
     → PlainTask kind p next ts us part
 plain-task {alphabet = alphabet} {p = p} {next = next} h o =
     record {
       effect = o .effect;
       derived = o .derived;
       within = plain-within alphabet (o .effect) (o .is) (h .within);
-      is = h .is ∙ ap (λ (a : Statement). statementPart alphabet a p next) (o .is) ∙ plain-part alphabet (o .effect) p next;
+      is = h .is ∙ ap (λ (a : Statement). statementPart alphabet a p next) (o .is) ∙ plain-part alphabet (h .place) (o .effect) p next;
     }
 
 -- a plain statement whose last number stands here

@@ -45,14 +45,15 @@ use Rattle.compiler.proofs.Emission.{at-room, at-rows, at-moved, at-pas
 
 -- an atom's task by its parts
 record AtomOf (to : ℕ) (sign : Bool) (alphabet : List ℕ) (p next : ℕ) (ts us : Ts) (part : Part) : Type 0 where
+  pub place : ℕ
   pub atom : Atom
-  pub derived : IsAtom ts atom us
+  pub derived : IsAtom ts place atom us
   pub within : AtomWithin alphabet atom
   pub below : to < next
   pub is : part ≡ rowsPart (atomRows alphabet sign atom p to) p next
 
 atom-of : {to : ℕ} {sign : Bool} {alphabet : List ℕ} {p next : ℕ} {ts us : Ts} {part : Part} → AtomTask to sign alphabet p next ts us part → AtomOf to sign alphabet p next ts us part
-atom-of (anAtom d within below) = record { atom = _; derived = d; within = within; below = below; is = refl }
+atom-of (anAtom d within below) = record { place = _; atom = _; derived = d; within = within; below = below; is = refl }
 
 abbrev atomIn : Tested → AtomRead → Tested
 atomIn default (Found a end) = a

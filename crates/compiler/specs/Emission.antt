@@ -7,7 +7,7 @@ use lib.ListN.{length}
 use Rattle.text.specs.Token.{Token, w, s}
 use Rattle.text.specs.Tokens.{_at_}
 use Rattle.table.specs.Table.{Row}
-use Rattle.rule.specs.Tree.{Atom, Condition, Statement, Statements, Arms}
+use Rattle.rule.specs.Tree.{Atom, Condition, Statement, Rest, Statements, Arms}
 use Rattle.rule.specs.Grammar.{
   Ts,
   IsAtom,
@@ -17,11 +17,12 @@ use Rattle.rule.specs.Grammar.{
   tightest,
   IsCondition,
   IsStatement,
+  IsRest,
   IsArms,
   IsBlock,
   IsStatements,
 }
-use Rattle.rule.proofs.Within.{AtomWithin, ConditionWithin, StatementWithin, StatementsWithin, ArmsWithin}
+use Rattle.rule.proofs.Within.{AtomWithin, ConditionWithin, StatementWithin, RestWithin, StatementsWithin, ArmsWithin}
 use Rattle.construction.specs.Construction.{
   anySymbol,
   eitherCounter,
@@ -32,6 +33,7 @@ use Rattle.construction.specs.Construction.{
   Part,
   test,
   statementPart,
+  restPart,
   statementsPart,
   armsPart,
 }
@@ -90,8 +92,8 @@ addedPart a p = rowsPart (a .rows) p (a .next)
 
 -- an atom, walked with a sign from p to a state
 pub data AtomTask (to : ℕ) (sign : Bool) (alphabet : List ℕ) (p next : ℕ) : Ts → Ts → Part → Type 0 where
-  anAtom : {ts us : Ts} {a : Atom}
-      → IsAtom ts a us
+  anAtom : {k : ℕ} {ts us : Ts} {a : Atom}
+      → IsAtom ts k a us
       → AtomWithin alphabet a
       → to < next
       → AtomTask to sign alphabet p next ts us (rowsPart (atomRows alphabet sign a p to) p next)
@@ -224,10 +226,12 @@ pub data BodyTask (to : ℕ) (alphabet : List ℕ) (p next : ℕ) : Ts → Ts �
 
 -- `else` and its block, or nothing; then a free row
 pub data ElseTask (to : ℕ) (alphabet : List ℕ) (p next : ℕ) : Ts → Ts → Part → Type 0 where
-  noElse : {ts : Ts} → Follows ts → to < next → ElseTask to alphabet p next ts ts (closedPart (rowsPart [] p next) to)
-  anElse : {t : ℕ} {ts us : Ts} {part : Part}
-      → BodyTask to alphabet p next ts us part
-      → ElseTask to alphabet p next ((w "else" at t) ∷ ts) us part
+  anElse : {ts us : Ts} {e : Rest}
+      → IsRest ts e us
+      → Follows us
+      → RestWithin alphabet e
+      → to < next
+      → ElseTask to alphabet p next ts us (closedPart (restPart alphabet e p next) to)
 
 -- arms, behind the word before the first of them
 pub data ArmsTask (to : ℕ) (alphabet : List ℕ) (p next : ℕ) : Ts → Ts → Part → Type 0 where

@@ -7,7 +7,7 @@ use lib.ListN.{length, drop}
 use Rattle.text.specs.Token.{w, s}
 use Rattle.text.specs.Tokens.{_at_}
 use Rattle.table.specs.Image.{encode}
-use Rattle.rule.specs.Tree.{Letter, Program, letterBytes}
+use Rattle.rule.specs.Tree.{Letter, Order, Program, letterBytes}
 use Rattle.rule.specs.Grammar.{Ts, IsLetters, IsDecrement, IsSettings}
 use Rattle.rule.specs.Faults.{Reads}
 use Rattle.construction.specs.Construction.{programPart, construct}
@@ -45,12 +45,14 @@ pub record Lists (text : List ℕ) (from : ℕ) (before after : List ℕ) (r : L
 
 -- what stands behind `decr_on_zero`
 pub record Tells (text : List ℕ) (from : ℕ) (r : Bool) : Type 0 where
-  pub tells : {q : ℕ} {ts us : Ts} {d : Bool} → Here text from ts → IsDecrement ((w "decr_on_zero" at q) ∷ ts) d us → r ≡ d
+  pub tells : {q v : ℕ} {ts us : Ts} {d : Bool} → Here text from ts → IsDecrement ((w "decr_on_zero" at q) ∷ ts) d v us → r ≡ d
 
 -- the text begins with settings, and there is room for their letters
 pub record SettingsAt (text out : List ℕ) (ts us : Ts) (l : List Letter) (d : Bool) : Type 0 where
   pub here : Here text 0 ts
-  pub settings : IsSettings ts l d us
+  pub first : Order
+  pub truth : ℕ
+  pub settings : IsSettings ts first l d truth us
   pub few : length l ≤ 16
   pub room : imageRoom ≤ length out
 

@@ -14,17 +14,17 @@ turned (counterIsNot n) = counterIs n
 
 module _ (alphabet : List ℕ) (o : ℕ) where
   -- `!` before `==` is walked as `!=`, and before `!=` as `==`
-  pub turns-atom : (a : Atom) (sign : Bool) (p q next : ℕ)
-      → walk alphabet (negation o (atom a)) sign p q next ≡ walk alphabet (atom (turned a)) sign p q next
+  pub turns-atom : (t : ℕ) (a : Atom) (sign : Bool) (p q next : ℕ)
+      → walk alphabet (negation o (atom t a)) sign p q next ≡ walk alphabet (atom t (turned a)) sign p q next
   unfolding walk atomRows
-  turns-atom (readIs x) true p q next = refl
-  turns-atom (readIs x) false p q next = refl
-  turns-atom (readIsNot x) true p q next = refl
-  turns-atom (readIsNot x) false p q next = refl
-  turns-atom (counterIs n) true p q next = refl
-  turns-atom (counterIs n) false p q next = refl
-  turns-atom (counterIsNot n) true p q next = refl
-  turns-atom (counterIsNot n) false p q next = refl
+  turns-atom t (readIs x) true p q next = refl
+  turns-atom t (readIs x) false p q next = refl
+  turns-atom t (readIsNot x) true p q next = refl
+  turns-atom t (readIsNot x) false p q next = refl
+  turns-atom t (counterIs n) true p q next = refl
+  turns-atom t (counterIs n) false p q next = refl
+  turns-atom t (counterIsNot n) true p q next = refl
+  turns-atom t (counterIsNot n) false p q next = refl
 
   -- before `&&` as `||`, and before `||` as `&&`, each of the two turned
   pub turns-both : (c d : Condition) (sign : Bool) (p q next : ℕ)

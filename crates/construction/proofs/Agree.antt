@@ -58,6 +58,7 @@ module _ (p : Program) (none : faults p ≡ []) where
         let s = a .situation in
         let accept = program-right .accepting .at (s .state) (accepts-listed p (s .state) (a .accepting)) in
         record {
+          place = accept .place;
           rest = accept .rest;
           cell = s .cell;
           counter = s .counter;

@@ -35,10 +35,12 @@ use Rattle.rule.specs.Tree.{
   accept,
   reject,
   if,
-  ifElse,
   while,
   choose,
   branch,
+  Rest,
+  nothing,
+  else,
   Statements,
   done,
   _then_,
@@ -52,6 +54,7 @@ use Rattle.rule.proofs.Within.{
   ConditionWithin,
   PlainWithin,
   StatementWithin,
+  RestWithin,
   StatementsWithin,
   ArmsWithin,
 }
@@ -78,11 +81,12 @@ use Rattle.construction.specs.Construction.{
   armPart,
   andThen,
   statementPart,
+  restPart,
   statementsPart,
   armsPart,
 }
 use Rattle.construction.proofs.Symbols.{countUp-mem, without-mem, code-mem}
-use Rattle.construction.proofs.Counts.{test-next, statements-next, arms-next}
+use Rattle.construction.proofs.Counts.{test-next, rest-next, statements-next, arms-next}
 use Rattle.construction.proofs.Every.{Every, every-nil, every-cons, every-append}
 use Rattle.construction.proofs.Own.{own-below}
 use Rattle.construction.proofs.Parts.{leads-walk, statement-lone}
@@ -183,7 +187,7 @@ module _ (alphabet : List ℕ) where
       → ConditionWithin alphabet c
       → Every P (walk alphabet c sign p q next .rows)
   unfolding walk oneAfterOther oneOrOther ConditionWithin
-  walk-every P f (atom a) sign p q next within = f a sign p q within
+  walk-every P f (atom t a) sign p q next within = f a sign p q within
   walk-every P f (parens o c) sign p q next within = walk-every P f c sign p q next within
   walk-every P f (negation o c) sign p q next within = walk-every P f c (not sign) p q next within
   walk-every P f (both c d) true p q next within =
@@ -232,7 +236,7 @@ module _ (alphabet : List ℕ) where
         (walk-fine c false p y (holding .next) within i k)
 
     mutual
-      unfolding statementPart statementsPart armsPart ifPart loopPart armPart andThen StatementWithin StatementsWithin ArmsWithin
+      unfolding statementPart restPart statementsPart armsPart ifPart loopPart armPart andThen StatementWithin RestWithin StatementsWithin ArmsWithin
 
       -- those of a statement
       pub statement-fine :
@@ -241,33 +245,24 @@ module _ (alphabet : List ℕ) where
           → p < next
           → statementPart alphabet s p next .next ≤ limit
           → Every (Fine (length alphabet) limit) (statementPart alphabet s p next .rows)
-      statement-fine (plain e) p next within h k = every-cons (record { codes = plain-codes e within; to = k }) every-nil
-      statement-fine accept p next within h k = every-nil
-      statement-fine reject p next within h k = every-nil
-      statement-fine (if c o b) p next within h k =
-          let tests = test alphabet c p (next + 1) (next + 2) (next + 3) in
-          let m = test-next alphabet c p (next + 1) (next + 2) (next + 3) in
-          let n = statements-next b alphabet (next + 1) (tests .next) in
-          every-append (tests .rows)
-          (test-fine c p (next + 1) (next + 2) (next + 3) (within .0) (omega arith) (omega arith) (omega arith))
-          (every-append _
-          (statements-fine b (next + 1) (tests .next) (within .1) (omega arith) k)
-          (every-cons (free-fine (omega arith)) (every-cons (free-fine (omega arith)) every-nil)))
-      statement-fine (ifElse c o b o′ b′) p next within h k =
+      statement-fine (plain t e) p next within h k = every-cons (record { codes = plain-codes e within; to = k }) every-nil
+      statement-fine (accept t) p next within h k = every-nil
+      statement-fine (reject t) p next within h k = every-nil
+      statement-fine (if t c o b e) p next within h k =
           let tests = test alphabet c p (next + 1) (next + 2) (next + 3) in
           let yesPart = statementsPart alphabet b (next + 1) (tests .next) in
           let l = test-next alphabet c p (next + 1) (next + 2) (next + 3) in
           let m = statements-next b alphabet (next + 1) (tests .next) in
-          let n = statements-next b′ alphabet (next + 2) (yesPart .next) in
+          let n = rest-next e alphabet (next + 2) (yesPart .next) in
           every-append (tests .rows)
           (test-fine c p (next + 1) (next + 2) (next + 3) (within .0) (omega arith) (omega arith) (omega arith))
           (every-append (yesPart .rows)
           (statements-fine b (next + 1) (tests .next) (within .1) (omega arith) (omega arith))
           (every-cons (free-fine (omega arith))
           (every-append _
-          (statements-fine b′ (next + 2) (yesPart .next) (within .2) (omega arith) k)
+          (rest-fine e (next + 2) (yesPart .next) (within .2) (omega arith) k)
           (every-cons (free-fine (omega arith)) every-nil))))
-      statement-fine (while c o b) p next within h k =
+      statement-fine (while t c o b) p next within h k =
           let tests = test alphabet c p (next + 1) next (next + 2) in
           let m = test-next alphabet c p (next + 1) next (next + 2) in
           let n = statements-next b alphabet (next + 1) (tests .next) in
@@ -276,14 +271,14 @@ module _ (alphabet : List ℕ) where
           (every-append _
           (statements-fine b (next + 1) (tests .next) (within .1) (omega arith) k)
           (every-cons (free-fine (omega arith)) every-nil))
-      statement-fine (choose o b) p next within h k =
+      statement-fine (choose t o b) p next within h k =
           let n = statements-next b alphabet (next + 1) (next + 2) in
           every-cons (free-fine (omega arith))
           (every-cons (free-fine (omega arith))
           (every-append _
           (statements-fine b (next + 1) (next + 2) within (omega arith) k)
           (every-cons (free-fine (omega arith)) every-nil)))
-      statement-fine (branch o b a) p next within h k =
+      statement-fine (branch t o b a) p next within h k =
           let first = statementsPart alphabet b (next + 1) (next + 2) in
           let m = statements-next b alphabet (next + 1) (next + 2) in
           let n = arms-next a alphabet p next (first .next) in
@@ -293,6 +288,16 @@ module _ (alphabet : List ℕ) where
           (statements-fine b (next + 1) (next + 2) (within .0) (omega arith) (omega arith))
           (every-cons (free-fine (omega arith)) every-nil))
           (arms-fine a p next (first .next) (within .1) (omega arith) (omega arith) k))
+
+      -- those of the rest of an if
+      rest-fine :
+          (e : Rest) (p next : ℕ)
+          → RestWithin alphabet e
+          → p < next
+          → restPart alphabet e p next .next ≤ limit
+          → Every (Fine (length alphabet) limit) (restPart alphabet e p next .rows)
+      rest-fine nothing p next within h k = every-nil
+      rest-fine (else o b) p next within h k = statements-fine b p next within h k
 
       -- those of a block's statements
       pub statements-fine :

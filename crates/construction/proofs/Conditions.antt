@@ -69,13 +69,13 @@ pub atom-between :
     → Every (Between p q) (atomRows alphabet sign a p q)
 unfolding walk ConditionWithin
 atom-between alphabet a sign p q within =
-    let leads = leads-walk alphabet (atom a) sign p q 0 in
+    let leads = leads-walk alphabet (atom 0 a) sign p q 0 in
     record {
       at =
           λ r m.
           record {
             from = no-other (leads .from .at r m);
             to = no-other (leads .to .at r m);
-            still = walk-still alphabet (atom a) sign p q 0 within .at r m;
+            still = walk-still alphabet (atom 0 a) sign p q 0 within .at r m;
           };
     }

@@ -25,10 +25,12 @@ use Rattle.rule.specs.Tree.{
   accept,
   reject,
   if,
-  ifElse,
   while,
   choose,
   branch,
+  Rest,
+  nothing,
+  else,
   Statements,
   done,
   _then_,
@@ -54,6 +56,7 @@ use Rattle.construction.specs.Construction.{
   armPart,
   andThen,
   statementPart,
+  restPart,
   statementsPart,
   armsPart,
   programPart,
@@ -62,22 +65,24 @@ use Rattle.construction.specs.Construction.{
 use Rattle.rule.specs.Counts.{
   conditionStates,
   statementStates,
+  restStates,
   statementsStates,
   armsStates,
   programStates,
   atomCount,
   conditionRows,
   statementRows,
+  restRows,
   statementsRows,
   armsRows,
   programRows,
 }
 use Rattle.construction.proofs.Symbols.{length-others}
-use Rattle.construction.proofs.Seeks.{AtomSeeks, ConditionSeeks, StatementSeeks, StatementsSeek, ArmsSeek, statements-seek}
+use Rattle.construction.proofs.Seeks.{AtomSeeks, ConditionSeeks, StatementSeeks, RestSeeks, StatementsSeek, ArmsSeek, statements-seek}
 
 -- the states that a condition takes when walked with this sign: each operator takes one under one of the two signs
 unfoldable pub walkStates : Condition → Bool → ℕ
-walkStates (atom a) sign = 0
+walkStates (atom t a) sign = 0
 walkStates (parens o c) sign = walkStates c sign
 walkStates (negation o c) sign = walkStates c (not sign)
 walkStates (both c d) true = 1 + (walkStates c true + walkStates d true)
@@ -101,7 +106,7 @@ or-states a b m n f g p q next = omega (arith, f p q next, g p q (a p q next .ne
 -- a condition's walk takes its states
 pub walk-states : (alphabet : List ℕ) (c : Condition) (sign : Bool) → TakesStates (walk alphabet c sign) (walkStates c sign)
 unfolding walk walkStates
-walk-states alphabet (atom a) sign = λ p q next. omega arith
+walk-states alphabet (atom t a) sign = λ p q next. omega arith
 walk-states alphabet (parens o c) sign = walk-states alphabet c sign
 walk-states alphabet (negation o c) sign = walk-states alphabet c (not sign)
 walk-states alphabet (both c d) true =
@@ -116,7 +121,7 @@ walk-states alphabet (either c d) false =
 -- under the two signs together, one for each operator
 pub both-signs : (c : Condition) → walkStates c true + walkStates c false ≡ conditionStates c
 unfolding walkStates conditionStates
-both-signs (atom a) = refl
+both-signs (atom t a) = refl
 both-signs (parens o c) = both-signs c
 both-signs (negation o c) = omega (arith, both-signs c)
 both-signs (both c d) = omega (arith, both-signs c, both-signs d)
@@ -132,46 +137,46 @@ test-next alphabet c p x y next =
 
 -- every part takes its tree's states, wherever it starts and whatever the alphabet is
 mutual
-  unfolding statementPart statementsPart armsPart ifPart loopPart armPart andThen statementStates statementsStates armsStates
+  unfolding statementPart restPart statementsPart armsPart ifPart loopPart armPart andThen statementStates restStates statementsStates armsStates
 
   -- a statement
   pub statement-next :
       (s : Statement) (alphabet : List ℕ) (p next : ℕ)
       → statementPart alphabet s p next .next ≡ next + statementStates s
-  statement-next (plain e) alphabet p next = omega arith
-  statement-next accept alphabet p next = omega arith
-  statement-next reject alphabet p next = omega arith
-  statement-next (if c o b) alphabet p next =
-      let tests = test alphabet c p (next + 1) (next + 2) (next + 3) in
-      omega (
-        arith,
-        test-next alphabet c p (next + 1) (next + 2) (next + 3),
-        statements-next b alphabet (next + 1) (tests .next),
-      )
-  statement-next (ifElse c o b o′ b′) alphabet p next =
+  statement-next (plain t e) alphabet p next = omega arith
+  statement-next (accept t) alphabet p next = omega arith
+  statement-next (reject t) alphabet p next = omega arith
+  statement-next (if t c o b e) alphabet p next =
       let tests = test alphabet c p (next + 1) (next + 2) (next + 3) in
       let yesPart = statementsPart alphabet b (next + 1) (tests .next) in
       omega (
         arith,
         test-next alphabet c p (next + 1) (next + 2) (next + 3),
         statements-next b alphabet (next + 1) (tests .next),
-        statements-next b′ alphabet (next + 2) (yesPart .next),
+        rest-next e alphabet (next + 2) (yesPart .next),
       )
-  statement-next (while c o b) alphabet p next =
+  statement-next (while t c o b) alphabet p next =
       let tests = test alphabet c p (next + 1) next (next + 2) in
       omega (
         arith,
         test-next alphabet c p (next + 1) next (next + 2),
         statements-next b alphabet (next + 1) (tests .next),
       )
-  statement-next (choose o b) alphabet p next = omega (arith, statements-next b alphabet (next + 1) (next + 2))
-  statement-next (branch o b a) alphabet p next =
+  statement-next (choose t o b) alphabet p next = omega (arith, statements-next b alphabet (next + 1) (next + 2))
+  statement-next (branch t o b a) alphabet p next =
       let first = statementsPart alphabet b (next + 1) (next + 2) in
       omega (
         arith,
         statements-next b alphabet (next + 1) (next + 2),
         arms-next a alphabet p next (first .next),
       )
+
+  -- the rest of an if
+  pub rest-next :
+      (e : Rest) (alphabet : List ℕ) (p next : ℕ)
+      → restPart alphabet e p next .next ≡ next + restStates e
+  rest-next nothing alphabet p next = omega arith
+  rest-next (else o b) alphabet p next = statements-next b alphabet p next
 
   -- a block's statements
   pub statements-next :
@@ -207,7 +212,7 @@ atomSigned k (counterIsNot n) sign = 1
 
 -- the rows of a condition under this sign
 unfoldable pub walkRows : ℕ → Condition → Bool → ℕ
-walkRows k (atom a) sign = atomSigned k a sign
+walkRows k (atom t a) sign = atomSigned k a sign
 walkRows k (parens o c) sign = walkRows k c sign
 walkRows k (negation o c) sign = walkRows k c (not sign)
 walkRows k (both c d) sign = walkRows k c sign + walkRows k d sign
@@ -221,10 +226,10 @@ length-symbolRows (x ∷ xs) p q = ap suc (length-symbolRows xs p q)
 -- under the two signs together, those of the formula
 both-signs-rows : (k : ℕ) (c : Condition) → walkRows k c true + walkRows k c false ≡ conditionRows k c
 unfolding walkRows conditionRows atomSigned atomCount
-both-signs-rows k (atom (readIs x)) = omega arith
-both-signs-rows k (atom (readIsNot x)) = omega arith
-both-signs-rows k (atom (counterIs n)) = refl
-both-signs-rows k (atom (counterIsNot n)) = refl
+both-signs-rows k (atom t (readIs x)) = omega arith
+both-signs-rows k (atom t (readIsNot x)) = omega arith
+both-signs-rows k (atom t (counterIs n)) = refl
+both-signs-rows k (atom t (counterIsNot n)) = refl
 both-signs-rows k (parens o c) = both-signs-rows k c
 both-signs-rows k (negation o c) = omega (arith, both-signs-rows k c)
 both-signs-rows k (both c d) = omega (arith, both-signs-rows k c, both-signs-rows k d)
@@ -270,7 +275,7 @@ module _ (alphabet : List ℕ) (few : length alphabet ≤ 16) where
       → ConditionSeeks alphabet c
       → AddsRows (walk alphabet c sign) (walkRows (length alphabet) c sign)
   unfolding walk walkRows ConditionSeeks
-  condition-rows (atom a) sign within = λ p q next. atom-rows a sign p q within
+  condition-rows (atom t a) sign within = λ p q next. atom-rows a sign p q within
   condition-rows (parens o c) sign within = condition-rows c sign within
   condition-rows (negation o c) sign within = condition-rows c (not sign) within
   condition-rows (both c d) true within =
@@ -298,25 +303,17 @@ module _ (alphabet : List ℕ) (few : length alphabet ≤ 16) where
       ))
 
   mutual
-    unfolding statementPart statementsPart armsPart ifPart loopPart armPart andThen statementRows statementsRows armsRows StatementSeeks StatementsSeek ArmsSeek
+    unfolding statementPart restPart statementsPart armsPart ifPart loopPart armPart andThen statementRows restRows statementsRows armsRows StatementSeeks RestSeeks StatementsSeek ArmsSeek
 
     -- a statement
     pub statement-rows :
         (s : Statement) (p next : ℕ)
         → StatementSeeks alphabet s
         → length (statementPart alphabet s p next .rows) ≡ statementRows (length alphabet) s
-    statement-rows (plain e) p next within = refl
-    statement-rows accept p next within = refl
-    statement-rows reject p next within = refl
-    statement-rows (if c o b) p next within =
-        let tests = test alphabet c p (next + 1) (next + 2) (next + 3) in
-        simp length-append
-        (omega (
-          arith,
-          test-rows c p (next + 1) (next + 2) (next + 3) (within .0),
-          statements-rows b (next + 1) (tests .next) (within .1),
-        ))
-    statement-rows (ifElse c o b o′ b′) p next within =
+    statement-rows (plain t e) p next within = refl
+    statement-rows (accept t) p next within = refl
+    statement-rows (reject t) p next within = refl
+    statement-rows (if t c o b e) p next within =
         let tests = test alphabet c p (next + 1) (next + 2) (next + 3) in
         let yesPart = statementsPart alphabet b (next + 1) (tests .next) in
         simp length-append
@@ -324,9 +321,9 @@ module _ (alphabet : List ℕ) (few : length alphabet ≤ 16) where
           arith,
           test-rows c p (next + 1) (next + 2) (next + 3) (within .0),
           statements-rows b (next + 1) (tests .next) (within .1),
-          statements-rows b′ (next + 2) (yesPart .next) (within .2),
+          rest-rows e (next + 2) (yesPart .next) (within .2),
         ))
-    statement-rows (while c o b) p next within =
+    statement-rows (while t c o b) p next within =
         let tests = test alphabet c p (next + 1) next (next + 2) in
         simp length-append
         (omega (
@@ -334,9 +331,9 @@ module _ (alphabet : List ℕ) (few : length alphabet ≤ 16) where
           test-rows c p (next + 1) next (next + 2) (within .0),
           statements-rows b (next + 1) (tests .next) (within .1),
         ))
-    statement-rows (choose o b) p next within =
+    statement-rows (choose t o b) p next within =
         simp length-append (omega (arith, statements-rows b (next + 1) (next + 2) within))
-    statement-rows (branch o b a) p next within =
+    statement-rows (branch t o b a) p next within =
         let first = statementsPart alphabet b (next + 1) (next + 2) in
         simp length-append
         (omega (
@@ -344,6 +341,14 @@ module _ (alphabet : List ℕ) (few : length alphabet ≤ 16) where
           statements-rows b (next + 1) (next + 2) (within .0),
           arms-rows a p next (first .next) (within .1),
         ))
+
+    -- the rest of an if
+    pub rest-rows :
+        (e : Rest) (p next : ℕ)
+        → RestSeeks alphabet e
+        → length (restPart alphabet e p next .rows) ≡ restRows (length alphabet) e
+    rest-rows nothing p next within = refl
+    rest-rows (else o b) p next within = statements-rows b p next within
 
     -- a block's statements
     pub statements-rows :

@@ -18,10 +18,12 @@ use Rattle.rule.specs.Tree.{
   accept,
   reject,
   if,
-  ifElse,
   while,
   choose,
   branch,
+  Rest,
+  nothing,
+  else,
   Statements,
   done,
   _then_,
@@ -29,8 +31,8 @@ use Rattle.rule.specs.Tree.{
   lastArm,
   moreArms,
 }
-use Rattle.rule.specs.Meaning.{_before_}
-use Rattle.rule.proofs.Within.{StatementWithin, StatementsWithin}
+use Rattle.rule.specs.Meaning.{_before_, otherwise}
+use Rattle.rule.proofs.Within.{StatementWithin, RestWithin, StatementsWithin}
 use Rattle.construction.specs.Construction.{
   free,
   Added,
@@ -40,6 +42,7 @@ use Rattle.construction.specs.Construction.{
   armPart,
   andThen,
   statementPart,
+  restPart,
   statementsPart,
   armsPart,
 }
@@ -169,14 +172,13 @@ arms-exit alphabet (moreArms t o b a) p q next = arms-exit alphabet a p q _
 -- a statement exits in the first state that it takes
 statement-exit : (alphabet : List ℕ) (a : Statement) (p next : ℕ) → statementPart alphabet a p next .exit ≡ next
 unfolding statementPart ifPart loopPart andThen
-statement-exit alphabet (plain e) p next = refl
-statement-exit alphabet accept p next = refl
-statement-exit alphabet reject p next = refl
-statement-exit alphabet (if c o b) p next = refl
-statement-exit alphabet (ifElse c o b o′ b′) p next = refl
-statement-exit alphabet (while c o b) p next = refl
-statement-exit alphabet (choose o b) p next = refl
-statement-exit alphabet (branch o b a) p next = arms-exit alphabet a p next _
+statement-exit alphabet (plain t e) p next = refl
+statement-exit alphabet (accept t) p next = refl
+statement-exit alphabet (reject t) p next = refl
+statement-exit alphabet (if t c o b e) p next = refl
+statement-exit alphabet (while t c o b) p next = refl
+statement-exit alphabet (choose t o b) p next = refl
+statement-exit alphabet (branch t o b a) p next = arms-exit alphabet a p next _
 
 -- the first state of a block stands for the block, and then for what its exit stands for
 pub block-stands :
@@ -192,3 +194,14 @@ block-stands {t} (a then b) s next within has after =
     let second = statementsPart (t .alphabet) b (first .exit) (first .next) in
     front next (within .0) (has-first first second has)
     (rw statement-exit at (block-stands b (first .exit) (first .next) (within .1) (has-second first second has) after))
+
+-- so it is with the rest of an if
+pub rest-stands :
+    {t : Table} (e : Rest) (s next : ℕ) {k : Statements}
+    → RestWithin (t .alphabet) e
+    → Has t (restPart (t .alphabet) e s next)
+    → Stands t (restPart (t .alphabet) e s next .exit) k
+    → Stands t s (otherwise e before k)
+unfolding restPart otherwise _before_ RestWithin
+rest-stands nothing s next within has after = after
+rest-stands (else o b) s next within has after = block-stands b s next within has after

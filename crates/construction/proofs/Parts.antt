@@ -32,10 +32,12 @@ use Rattle.rule.specs.Tree.{
   accept,
   reject,
   if,
-  ifElse,
   while,
   choose,
   branch,
+  Rest,
+  nothing,
+  else,
   Statements,
   done,
   _then_,
@@ -52,6 +54,7 @@ use Rattle.construction.specs.Construction.{
   oneOrOther,
   walk,
   Part,
+  emptyPart,
   free,
   test,
   ifPart,
@@ -59,6 +62,7 @@ use Rattle.construction.specs.Construction.{
   armPart,
   andThen,
   statementPart,
+  restPart,
   statementsPart,
   armsPart,
 }
@@ -157,7 +161,7 @@ leads-atom alphabet false (counterIsNot n) p q next = leads-one
 pub leads-walk :
     (alphabet : List ℕ) (c : Condition) (sign : Bool) (p q next : ℕ) → Leads p q next (walk alphabet c sign p q next)
 unfolding walk oneAfterOther oneOrOther
-leads-walk alphabet (atom a) sign p q next = leads-atom alphabet sign a p q next
+leads-walk alphabet (atom t a) sign p q next = leads-atom alphabet sign a p q next
 leads-walk alphabet (parens o c) sign p q next = leads-walk alphabet c sign p q next
 leads-walk alphabet (negation o c) sign p q next = leads-walk alphabet c (not sign) p q next
 leads-walk alphabet (both c d) true p q next =
@@ -313,7 +317,7 @@ many-lone h a =
     }
 
 -- no statement, and one before others
-done-series : (p next : ℕ) → Series p next (record { rows = []; accepting = []; exit = p; next = next })
+done-series : (p next : ℕ) → Series p next (emptyPart p next)
 done-series p next =
     record { grows = le-refl _; laid = λ onward f. laid-rows (record { at = λ r m. start (f .at r m) }) }
 
@@ -335,13 +339,13 @@ then-series {a} {b} h f g =
 -- every part, wherever it starts and whatever the alphabet is
 module _ (alphabet : List ℕ) where
   mutual
-    unfolding statementPart statementsPart armsPart
+    unfolding statementPart restPart statementsPart armsPart
 
     -- a statement
     pub statement-lone : (s : Statement) (p next : ℕ) → p < next → Lone p next (statementPart alphabet s p next)
-    statement-lone (plain e) p next h =
+    statement-lone (plain t e) p next h =
         record { grows = le-refl _; exit = refl; laid = laid-rows (every-cons (start refl) every-nil) }
-    statement-lone accept p next h =
+    statement-lone (accept t) p next h =
         record {
           grows = le-refl _;
           exit = refl;
@@ -352,31 +356,31 @@ module _ (alphabet : List ℕ) where
                 apart = λ r s m n. absurd (List·Memᴰ·not-nil m);
               };
         }
-    statement-lone reject p next h = record { grows = le-refl _; exit = refl; laid = laid-rows every-nil }
-    statement-lone (if c o b) p next h =
-        let grows = test-next alphabet c p (next + 1) (next + 2) (next + 3) in
-        if-lone _ _ _ h (omega arith) (test-from alphabet c p (next + 1) (next + 2) (next + 3))
-        (statements-series b (next + 1) _ (omega arith))
-        (done-series (next + 2) _)
-    statement-lone (ifElse c o b o′ b′) p next h =
+    statement-lone (reject t) p next h = record { grows = le-refl _; exit = refl; laid = laid-rows every-nil }
+    statement-lone (if t c o b e) p next h =
         let grows = test-next alphabet c p (next + 1) (next + 2) (next + 3) in
         let first = statements-series b (next + 1) (test alphabet c p (next + 1) (next + 2) (next + 3) .next) (omega arith) in
         let more = first .grows in
         if-lone _ _ _ h (omega arith) (test-from alphabet c p (next + 1) (next + 2) (next + 3))
         first
-        (statements-series b′ (next + 2) _ (omega arith))
-    statement-lone (while c o b) p next h =
+        (rest-series e (next + 2) _ (omega arith))
+    statement-lone (while t c o b) p next h =
         let grows = test-next alphabet c p (next + 1) next (next + 2) in
         loop-lone _ _ h (omega arith) (test-from alphabet c p (next + 1) next (next + 2))
         (statements-series b (next + 1) _ (omega arith))
-    statement-lone (choose o b) p next h =
+    statement-lone (choose t o b) p next h =
         loop-lone _ _ h (le-refl _) (every-cons (start refl) (every-cons (start refl) every-nil))
         (statements-series b (next + 1) (next + 2) (omega arith))
-    statement-lone (branch o b a) p next h =
+    statement-lone (branch t o b a) p next h =
         let enters : p < next + 1 = omega arith in
         let first = arm-many _ next enters (omega arith) (statements-series b (next + 1) (next + 2) (omega arith)) in
         let grows = first .grows in
         many-lone h (many-then enters first (arms-many a p next _ (omega arith)))
+
+    -- the rest of an if
+    rest-series : (e : Rest) (p next : ℕ) → p < next → Series p next (restPart alphabet e p next)
+    rest-series nothing p next h = done-series p next
+    rest-series (else o b) p next h = statements-series b p next h
 
     -- a block's statements
     pub statements-series : (b : Statements) (p next : ℕ) → p < next → Series p next (statementsPart alphabet b p next)

@@ -18,10 +18,12 @@ use Rattle.rule.specs.Tree.{
   accept,
   reject,
   if,
-  ifElse,
   while,
   choose,
   branch,
+  Rest,
+  nothing,
+  else,
   Statements,
   done,
   _then_,
@@ -30,7 +32,7 @@ use Rattle.rule.specs.Tree.{
   moreArms,
   Program,
 }
-use Rattle.rule.specs.Meaning.{_before_}
+use Rattle.rule.specs.Meaning.{_before_, otherwise}
 
 -- these statements are left to run; or as before, and a condition is known to have this truth value
 pub data Role : Type 0 where
@@ -39,7 +41,7 @@ pub data Role : Type 0 where
 
 -- the roles of the states that a condition's walk takes, from a state with this role; and then more
 unfoldable pub walkRoles : Condition → Bool → Role → List Role → List Role
-walkRoles (atom a) sign m more = more
+walkRoles (atom t a) sign m more = more
 walkRoles (parens o c) sign m more = walkRoles c sign m more
 walkRoles (negation o c) sign m more = walkRoles c (not sign) m more
 walkRoles (both c d) true m more = knows m c true ∷ walkRoles c true m (walkRoles d true (knows m c true) more)
@@ -54,27 +56,26 @@ testRoles c m more = walkRoles c true m (walkRoles c false m more)
 -- those that statements take, with these statements after them
 unfoldable mutual
   pub statementRoles : Statement → Statements → List Role → List Role
-  statementRoles (plain e) rest more = leaves rest ∷ more
-  statementRoles accept rest more = leaves rest ∷ more
-  statementRoles reject rest more = leaves rest ∷ more
-  statementRoles (if c o b) rest more =
+  statementRoles (plain t e) rest more = leaves rest ∷ more
+  statementRoles (accept t) rest more = leaves rest ∷ more
+  statementRoles (reject t) rest more = leaves rest ∷ more
+  statementRoles (if t c o b e) rest more =
       leaves rest
       ∷ leaves (b before rest)
-      ∷ leaves rest
-      ∷ testRoles c (leaves (if c o b then rest)) (statementsRoles b rest more)
-  statementRoles (ifElse c o b o′ b′) rest more =
+      ∷ leaves (otherwise e before rest)
+      ∷ testRoles c (leaves (if t c o b e then rest)) (statementsRoles b rest (restRoles e rest more))
+  statementRoles (while t c o b) rest more =
       leaves rest
-      ∷ leaves (b before rest)
-      ∷ leaves (b′ before rest)
-      ∷ testRoles c (leaves (ifElse c o b o′ b′ then rest)) (statementsRoles b rest (statementsRoles b′ rest more))
-  statementRoles (while c o b) rest more =
-      leaves rest
-      ∷ leaves (b before (while c o b then rest))
-      ∷ testRoles c (leaves (while c o b then rest)) (statementsRoles b (while c o b then rest) more)
-  statementRoles (choose o b) rest more =
-      leaves rest ∷ leaves (b before (choose o b then rest)) ∷ statementsRoles b (choose o b then rest) more
-  statementRoles (branch o b a) rest more =
+      ∷ leaves (b before (while t c o b then rest))
+      ∷ testRoles c (leaves (while t c o b then rest)) (statementsRoles b (while t c o b then rest) more)
+  statementRoles (choose t o b) rest more =
+      leaves rest ∷ leaves (b before (choose t o b then rest)) ∷ statementsRoles b (choose t o b then rest) more
+  statementRoles (branch t o b a) rest more =
       leaves rest ∷ leaves (b before rest) ∷ statementsRoles b rest (armsRoles a rest more)
+
+  pub restRoles : Rest → Statements → List Role → List Role
+  restRoles nothing rest more = more
+  restRoles (else o b) rest more = statementsRoles b rest more
 
   pub statementsRoles : Statements → Statements → List Role → List Role
   statementsRoles done rest more = more

@@ -18,10 +18,12 @@ use Rattle.rule.specs.Tree.{
   accept,
   reject,
   if,
-  ifElse,
   while,
   choose,
   branch,
+  Rest,
+  nothing,
+  else,
   Statements,
   done,
   _then_,
@@ -29,7 +31,7 @@ use Rattle.rule.specs.Tree.{
   lastArm,
   moreArms,
 }
-use Rattle.rule.proofs.Within.{SoughtWithin, AtomWithin, ConditionWithin, StatementWithin, StatementsWithin, ArmsWithin}
+use Rattle.rule.proofs.Within.{SoughtWithin, AtomWithin, ConditionWithin, StatementWithin, RestWithin, StatementsWithin, ArmsWithin}
 
 -- a mark, or a letter of the alphabet
 unfoldable pub AtomSeeks : List ℕ → Atom → Type 0
@@ -40,7 +42,7 @@ AtomSeeks alphabet (counterIsNot n) = Unit
 
 -- so in every atom of a condition
 unfoldable pub ConditionSeeks : List ℕ → Condition → Type 0
-ConditionSeeks alphabet (atom a) = AtomSeeks alphabet a
+ConditionSeeks alphabet (atom t a) = AtomSeeks alphabet a
 ConditionSeeks alphabet (parens o c) = ConditionSeeks alphabet c
 ConditionSeeks alphabet (negation o c) = ConditionSeeks alphabet c
 ConditionSeeks alphabet (both c d) = ConditionSeeks alphabet c × ConditionSeeks alphabet d
@@ -49,14 +51,17 @@ ConditionSeeks alphabet (either c d) = ConditionSeeks alphabet c × ConditionSee
 -- so in every condition of a statement, of a block's statements and of arms
 unfoldable mutual
   pub StatementSeeks : List ℕ → Statement → Type 0
-  StatementSeeks alphabet (plain e) = Unit
-  StatementSeeks alphabet accept = Unit
-  StatementSeeks alphabet reject = Unit
-  StatementSeeks alphabet (if c o b) = ConditionSeeks alphabet c × StatementsSeek alphabet b
-  StatementSeeks alphabet (ifElse c o b o′ b′) = ConditionSeeks alphabet c × StatementsSeek alphabet b × StatementsSeek alphabet b′
-  StatementSeeks alphabet (while c o b) = ConditionSeeks alphabet c × StatementsSeek alphabet b
-  StatementSeeks alphabet (choose o b) = StatementsSeek alphabet b
-  StatementSeeks alphabet (branch o b a) = StatementsSeek alphabet b × ArmsSeek alphabet a
+  StatementSeeks alphabet (plain t e) = Unit
+  StatementSeeks alphabet (accept t) = Unit
+  StatementSeeks alphabet (reject t) = Unit
+  StatementSeeks alphabet (if t c o b e) = ConditionSeeks alphabet c × StatementsSeek alphabet b × RestSeeks alphabet e
+  StatementSeeks alphabet (while t c o b) = ConditionSeeks alphabet c × StatementsSeek alphabet b
+  StatementSeeks alphabet (choose t o b) = StatementsSeek alphabet b
+  StatementSeeks alphabet (branch t o b a) = StatementsSeek alphabet b × ArmsSeek alphabet a
+
+  pub RestSeeks : List ℕ → Rest → Type 0
+  RestSeeks alphabet nothing = Unit
+  RestSeeks alphabet (else o b) = StatementsSeek alphabet b
 
   pub StatementsSeek : List ℕ → Statements → Type 0
   StatementsSeek alphabet done = Unit
@@ -77,25 +82,28 @@ module _ (alphabet : List ℕ) where
 
   condition-seeks : (c : Condition) → ConditionWithin alphabet c → ConditionSeeks alphabet c
   unfolding ConditionWithin ConditionSeeks
-  condition-seeks (atom a) within = atom-seeks a within
+  condition-seeks (atom t a) within = atom-seeks a within
   condition-seeks (parens o c) within = condition-seeks c within
   condition-seeks (negation o c) within = condition-seeks c within
   condition-seeks (both c d) within = (condition-seeks c (within .0), condition-seeks d (within .1))
   condition-seeks (either c d) within = (condition-seeks c (within .0), condition-seeks d (within .1))
 
   mutual
-    unfolding StatementWithin StatementsWithin ArmsWithin StatementSeeks StatementsSeek ArmsSeek
+    unfolding StatementWithin RestWithin StatementsWithin ArmsWithin StatementSeeks RestSeeks StatementsSeek ArmsSeek
 
     statement-seeks : (s : Statement) → StatementWithin alphabet s → StatementSeeks alphabet s
-    statement-seeks (plain e) within = tt
-    statement-seeks accept within = tt
-    statement-seeks reject within = tt
-    statement-seeks (if c o b) within = (condition-seeks c (within .0), statements-seek b (within .1))
-    statement-seeks (ifElse c o b o′ b′) within =
-        (condition-seeks c (within .0), statements-seek b (within .1), statements-seek b′ (within .2))
-    statement-seeks (while c o b) within = (condition-seeks c (within .0), statements-seek b (within .1))
-    statement-seeks (choose o b) within = statements-seek b within
-    statement-seeks (branch o b a) within = (statements-seek b (within .0), arms-seek a (within .1))
+    statement-seeks (plain t e) within = tt
+    statement-seeks (accept t) within = tt
+    statement-seeks (reject t) within = tt
+    statement-seeks (if t c o b e) within =
+        (condition-seeks c (within .0), statements-seek b (within .1), rest-seeks e (within .2))
+    statement-seeks (while t c o b) within = (condition-seeks c (within .0), statements-seek b (within .1))
+    statement-seeks (choose t o b) within = statements-seek b within
+    statement-seeks (branch t o b a) within = (statements-seek b (within .0), arms-seek a (within .1))
+
+    rest-seeks : (e : Rest) → RestWithin alphabet e → RestSeeks alphabet e
+    rest-seeks nothing within = tt
+    rest-seeks (else o b) within = statements-seek b within
 
     pub statements-seek : (b : Statements) → StatementsWithin alphabet b → StatementsSeek alphabet b
     statements-seek done within = tt

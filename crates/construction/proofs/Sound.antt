@@ -130,9 +130,9 @@ module _ (x : Trial) (role : ℕ → Role) where
 
   -- a plain statement's row
   pub plain-sound :
-      (e : Plain) (a b : ℕ) (rest : Statements)
+      {l : ℕ} (e : Plain) (a b : ℕ) (rest : Statements)
       → PlainWithin e
-      → role a ≡ leaves (plain e then rest)
+      → role a ≡ leaves (plain l e then rest)
       → role b ≡ leaves rest
       → Sound (plainRow e a b)
   plain-sound e a b rest within left right =
@@ -295,7 +295,7 @@ module _ (x : Trial) (role : ℕ → Role) where
       → ConditionWithin (t .alphabet) c
       → Walked (walk (t .alphabet) c sign) (walkRoles c sign) (Truth c sign)
   unfolding walk walkRoles holds ConditionWithin
-  walk-sound (atom a) sign within =
+  walk-sound (atom l a) sign within =
       record { walked = λ s u next more given k. record { rows = atom-sound a sign s u within k; given = given } }
   walk-sound (parens o c) sign within = walk-sound c sign within
   walk-sound (negation o c) sign within = walked-where (λ cell counter. turned _ sign .1) (walk-sound c (not sign) within)

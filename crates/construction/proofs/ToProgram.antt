@@ -2,7 +2,7 @@
 use Prim.Native.Nat.{ℕ, suc, _+_}
 use mathlib.Core.Path.{_≡_, sym, _∙_}
 use mathlib.Core.Bool.{true, false}
-use mathlib.Core.List.{List, [], _∷_}
+use mathlib.Core.List.{List, _∷_}
 use Rattle.table.specs.Table.{Row}
 use Rattle.cells.specs.Cell.{Symbol}
 use Rattle.rule.specs.Tree.{
@@ -12,10 +12,12 @@ use Rattle.rule.specs.Tree.{
   accept,
   reject,
   if,
-  ifElse,
   while,
   choose,
   branch,
+  Rest,
+  nothing,
+  else,
   Statements,
   done,
   _then_,
@@ -26,6 +28,7 @@ use Rattle.rule.specs.Tree.{
 use Rattle.rule.specs.Meaning.{
   holds,
   _before_,
+  otherwise,
   Arm,
   lastOne,
   thisOne,
@@ -33,8 +36,6 @@ use Rattle.rule.specs.Meaning.{
   Turns,
   ifHolds,
   ifFails,
-  elseHolds,
-  elseFails,
   whileHolds,
   whileFails,
   goesRound,
@@ -42,17 +43,19 @@ use Rattle.rule.specs.Meaning.{
   firstArm,
   otherArm,
 }
-use Rattle.rule.proofs.Within.{ConditionWithin, StatementWithin, StatementsWithin, ArmsWithin}
+use Rattle.rule.proofs.Within.{ConditionWithin, StatementWithin, RestWithin, StatementsWithin, ArmsWithin}
 use Rattle.construction.specs.Construction.{
   free,
   Added,
   Part,
+  emptyPart,
   test,
   ifPart,
   loopPart,
   armPart,
   andThen,
   statementPart,
+  restPart,
   statementsPart,
   armsPart,
 }
@@ -63,6 +66,7 @@ use Rattle.construction.proofs.Roles.{
   leaves,
   testRoles,
   statementRoles,
+  restRoles,
   statementsRoles,
   armsRoles,
   Given,
@@ -77,8 +81,9 @@ use Rattle.construction.proofs.Sound.{Sound, plain-sound, turn-sound, s
 
 -- this state's role has an `accept` in front
 pub record Accepts (role : ℕ → Role) (s : ℕ) : Type 0 where
+  pub place : ℕ
   pub rest : Statements
-  pub leaving : role s ≡ leaves (accept then rest)
+  pub leaving : role s ≡ leaves (accept place then rest)
 
 -- a part's rows are sound, it accepts only where an `accept` is in front, its exit leaves these statements, and the states
 -- after it have these roles
@@ -94,7 +99,7 @@ module _ {x : Trial} {role : ℕ → Role} where
       {s next : ℕ} {k : Statements} {more : List Role}
       → role s ≡ leaves k
       → Given role next more
-      → Right x role (record { rows = []; accepting = []; exit = s; next = next }) k more
+      → Right x role (emptyPart s next) k more
   empty-right left given = record { rows = every-nil; accepting = every-nil; exit = left; given = given }
 
   -- a free row from a part's exit to a state that leaves the same
@@ -203,7 +208,7 @@ module _ (x : Trial) (role : ℕ → Role) where
       (given-rest-two given)
 
   mutual
-    unfolding statementPart statementsPart armsPart statementRoles statementsRoles armsRoles StatementWithin StatementsWithin ArmsWithin _before_
+    unfolding statementPart restPart statementsPart armsPart statementRoles restRoles statementsRoles armsRoles StatementWithin RestWithin StatementsWithin ArmsWithin _before_ otherwise
 
     -- a statement's part is right, from a state that leaves it and the rest
     pub statement-right :
@@ -212,45 +217,51 @@ module _ (x : Trial) (role : ℕ → Role) where
         → role s ≡ leaves (a then rest)
         → Given role next (statementRoles a rest more)
         → Right x role (statementPart (t .alphabet) a s next) rest more
-    statement-right (plain e) s next rest more within left given =
+    statement-right (plain l e) s next rest more within left given =
         record {
           rows = every-cons (plain-sound x role e s next rest within left (given-first given)) every-nil;
           accepting = every-nil;
           exit = given-first given;
           given = given-rest given;
         }
-    statement-right accept s next rest more within left given =
+    statement-right (accept l) s next rest more within left given =
         record {
           rows = every-nil;
-          accepting = every-cons (record { rest = rest; leaving = left }) every-nil;
+          accepting = every-cons (record { place = l; rest = rest; leaving = left }) every-nil;
           exit = given-first given;
           given = given-rest given;
         }
-    statement-right reject s next rest more within left given = empty-right (given-first given) (given-rest given)
-    statement-right (if c o b) s next rest more within left given =
+    statement-right (reject l) s next rest more within left given = empty-right (given-first given) (given-rest given)
+    statement-right (if l c o b e) s next rest more within left given =
         let tests = if-tests c s next (within .0) left given (λ symbol counter. ifHolds) (λ symbol counter. ifFails) in
-        let yesPart = statements-right b (next + 1) _ rest more (within .1) (given-second given) (tests .given) in
-        if-right next tests yesPart (empty-right (given-third given) (yesPart .given)) (given-first given)
-    statement-right (ifElse c o b o′ b′) s next rest more within left given =
-        let tests = if-tests c s next (within .0) left given (λ symbol counter. elseHolds) (λ symbol counter. elseFails) in
         let yesPart = statements-right b (next + 1) _ rest _ (within .1) (given-second given) (tests .given) in
-        let noPart = statements-right b′ (next + 2) _ rest more (within .2) (given-third given) (yesPart .given) in
+        let noPart = rest-right e (next + 2) _ rest more (within .2) (given-third given) (yesPart .given) in
         if-right next tests yesPart noPart (given-first given)
-    statement-right (while c o b) s next rest more within left given =
+    statement-right (while l c o b) s next rest more within left given =
         let tests = while-tests c s next (within .0) left given (λ symbol counter. whileHolds) (λ symbol counter. whileFails) in
         let body = statements-right b (next + 1) _ _ more (within .1) (given-second given) (tests .given) in
         loop-right s next (tests .rows) body left (given-first given)
-    statement-right (choose o b) s next rest more within left given =
+    statement-right (choose l o b) s next rest more within left given =
         let round = turn-sound x role s (next + 1) left (given-second given) (λ symbol counter. goesRound) in
         let out = turn-sound x role s next left (given-first given) (λ symbol counter. stops) in
         let body = statements-right b (next + 1) (next + 2) _ more within (given-second given) (given-rest-two given) in
         loop-right s next (every-cons round (every-cons out every-nil)) body left (given-first given)
-    statement-right (branch o b a) s next rest more within left given =
+    statement-right (branch l o b a) s next rest more within left given =
         let into = turn-sound x role s (next + 1) left (given-second given) (λ symbol counter. firstArm) in
         let body = statements-right b (next + 1) (next + 2) rest _ (within .0) (given-second given) (given-rest-two given) in
         let first = arm-right s (next + 1) next into body (given-first given) in
         then-right first
         (arms-right a s next _ rest more (within .1) left (λ c m symbol counter. otherArm m) (given-first given) (first .given))
+
+    -- the part of an if's rest, from a state that leaves what the if goes on with where its condition fails
+    rest-right :
+        (e : Rest) (s next : ℕ) (k : Statements) (more : List Role)
+        → RestWithin (t .alphabet) e
+        → role s ≡ leaves (otherwise e before k)
+        → Given role next (restRoles e k more)
+        → Right x role (restPart (t .alphabet) e s next) k more
+    rest-right nothing s next k more within left given = empty-right left given
+    rest-right (else o b) s next k more within left given = statements-right b s next k more within left given
 
     -- a block's part, from a state that leaves it and what comes after it
     pub statements-right :

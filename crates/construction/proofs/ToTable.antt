@@ -21,8 +21,8 @@ use Rattle.rule.specs.Tree.{
   Statement,
   plain,
   accept,
+  Rest,
   Statements,
-  done,
   _then_,
   Arms,
 }
@@ -32,6 +32,7 @@ use Rattle.rule.specs.Meaning.{
   cellAfter,
   counterAfter,
   _before_,
+  otherwise,
   Arm,
   lastOne,
   thisOne,
@@ -39,8 +40,6 @@ use Rattle.rule.specs.Meaning.{
   Turns,
   ifHolds,
   ifFails,
-  elseHolds,
-  elseFails,
   whileHolds,
   whileFails,
   goesRound,
@@ -53,7 +52,7 @@ use Rattle.rule.specs.Meaning.{
   Comes,
   ProgramAccepts,
 }
-use Rattle.rule.proofs.Within.{ConditionWithin, PlainWithin, StatementWithin, StatementsWithin, ArmsWithin}
+use Rattle.rule.proofs.Within.{ConditionWithin, PlainWithin, StatementWithin, RestWithin, StatementsWithin, ArmsWithin}
 use Rattle.construction.specs.Construction.{
   free,
   plainRow,
@@ -65,6 +64,7 @@ use Rattle.construction.specs.Construction.{
   test,
   armPart,
   statementPart,
+  restPart,
   statementsPart,
   armsPart,
 }
@@ -99,6 +99,7 @@ use Rattle.construction.proofs.Fragments.{
   front,
   onward,
   block-stands,
+  rest-stands,
 }
 
 module _ (x : Trial) where
@@ -182,7 +183,7 @@ module _ (x : Trial) where
         → ConditionWithin (t .alphabet) c
         → Leads (walk (t .alphabet) c sign) (holds (symbolOn word cell) counter c ≡ sign)
     unfolding walk holds ConditionWithin
-    walk-leads (atom a) sign within =
+    walk-leads (atom l a) sign within =
         record {
           leads =
               λ p q next e rows here.
@@ -307,19 +308,22 @@ module _ (x : Trial) where
         block-arrives b u q n within′ (rows .yesHas) (rows .yesFree) after
         (holding-leads inside low c p u v next within e (rows .testing) here)
 
-    -- into the other block of an if whose condition fails; without an else it is empty
+    -- into the rest of an if whose condition fails
     no-arrives :
-        (c : Condition) (b : Statements) (p u v q next n : ℕ) {yesPart : Part} {rest : Statements}
+        (c : Condition) (r : Rest) (p u v q next n : ℕ) {yesPart : Part} {rest : Statements}
         → ConditionWithin (t .alphabet) c
-        → StatementsWithin (t .alphabet) b
-        → HasIf t (test (t .alphabet) c p u v next) yesPart (statementsPart (t .alphabet) b v n) q
+        → RestWithin (t .alphabet) r
+        → HasIf t (test (t .alphabet) c p u v next) yesPart (restPart (t .alphabet) r v n) q
         → Stands t q rest
         → At p cell counter
         → holds (symbolOn word cell) counter c ≡ false
-        → Arrived (b before rest) cell counter
-    no-arrives c b p u v q next n within within′ rows after here e =
-        block-arrives b v q n within′ (rows .noHas) (rows .noFree) after
-        (failing-leads inside low c p u v next within e (rows .testing) here)
+        → Arrived (otherwise r before rest) cell counter
+    no-arrives c r p u v q next n within within′ rows after here e =
+        record {
+          state = v;
+          reached = failing-leads inside low c p u v next within e (rows .testing) here;
+          stands = rest-stands r v n within′ (rows .noHas) (onward (rows .noFree) after);
+        }
 
     -- out of a loop
     out-arrives : {a : Statement} {rest : Statements} (f : Starts a rest cell counter) → At (f .next) cell counter → Arrived rest cell counter
@@ -334,12 +338,8 @@ module _ (x : Trial) where
     unfolding statementPart statementsPart StatementWithin StatementsWithin _before_
     turns-arrives (ifHolds {c = c} {b = b} e) f =
         yes-arrives c b _ _ _ _ _ _ (f .within .0) (f .within .1) (has-if (f .has)) (f .after) (f .reached) e
-    turns-arrives (ifFails {c = c} e) f =
-        no-arrives c done _ _ _ _ _ _ (f .within .0) tt (has-if (f .has)) (f .after) (f .reached) e
-    turns-arrives (elseHolds {c = c} {b = b} e) f =
-        yes-arrives c b _ _ _ _ _ _ (f .within .0) (f .within .1) (has-if (f .has)) (f .after) (f .reached) e
-    turns-arrives (elseFails {c = c} {b′ = b′} e) f =
-        no-arrives c b′ _ _ _ _ _ _ (f .within .0) (f .within .2) (has-if (f .has)) (f .after) (f .reached) e
+    turns-arrives (ifFails {c = c} {e = r} e) f =
+        no-arrives c r _ _ _ _ _ _ (f .within .0) (f .within .2) (has-if (f .has)) (f .after) (f .reached) e
     turns-arrives (whileHolds {c = c} {b = b} e) f =
         let rows = has-loop _ (f .has) in
         block-arrives b _ _ _ (f .within .1) (rows .bodyHas) (rows .back) (again f)
@@ -379,10 +379,10 @@ module _ (x : Trial) where
 
     -- and leads on to the rest
     plain-arrives :
-        {e : Plain} {rest : Statements} {counter′ : ℕ}
+        {l : ℕ} {e : Plain} {rest : Statements} {counter′ : ℕ}
         → counterAfter (t .stops) e counter ≡ some counter′
         → counter′ ≤ limit
-        → Starts (plain e) rest cell counter
+        → Starts (plain l e) rest cell counter
         → Arrived rest (cellAfter word e cell) counter′
     unfolding statementPart StatementWithin
     plain-arrives {e} {counter′ = counter′} h low′ f =
@@ -400,7 +400,7 @@ module _ (x : Trial) where
         }
 
   -- where `accept` is in front, the state accepts
-  accept-accepts : {rest : Statements} {cell counter : ℕ} (f : Starts accept rest cell counter) → Accepting t (f .state)
+  accept-accepts : {l : ℕ} {rest : Statements} {cell counter : ℕ} (f : Starts (accept l) rest cell counter) → Accepting t (f .state)
   unfolding statementPart
   accept-accepts f = every-head (f .has .accepting)
 

@@ -37,10 +37,12 @@ use Rattle.rule.specs.Tree.{
   accept,
   reject,
   if,
-  ifElse,
   while,
   choose,
   branch,
+  Rest,
+  nothing,
+  else,
   Statements,
   done,
   _then_,
@@ -174,7 +176,7 @@ oneOrOther a b p q next =
 
 -- a condition is walked together with its sign, so a negation turns both operators and all atoms beneath it
 unfoldable pub walk : List ℕ → Condition → Bool → Walk
-walk alphabet (atom a) sign = λ p q next. record { rows = atomRows alphabet sign a p q; next = next }
+walk alphabet (atom t a) sign = λ p q next. record { rows = atomRows alphabet sign a p q; next = next }
 walk alphabet (parens o c) sign = walk alphabet c sign
 walk alphabet (negation o c) sign = walk alphabet c (not sign)
 walk alphabet (both c d) true = oneAfterOther (walk alphabet c true) (walk alphabet d true)
@@ -188,6 +190,10 @@ pub record Part : Type 0 where
   pub accepting : List ℕ
   pub exit : ℕ
   pub next : ℕ
+
+-- no statement: it exits where it starts
+abbrev pub emptyPart : ℕ → ℕ → Part
+emptyPart p next = record { rows = []; accepting = []; exit = p; next = next }
 
 -- rows of the condition from p to x, rows of its negation from p to y
 unfoldable pub test : List ℕ → Condition → ℕ → ℕ → ℕ → ℕ → Added
@@ -241,34 +247,34 @@ andThen a b =
 
 unfoldable mutual
   pub statementPart : List ℕ → Statement → ℕ → ℕ → Part
-  statementPart alphabet (plain e) p next =
+  statementPart alphabet (plain t e) p next =
       record { rows = plainRow e p next ∷ []; accepting = []; exit = next; next = suc next }
-  statementPart alphabet accept p next = record { rows = []; accepting = p ∷ []; exit = next; next = suc next }
-  statementPart alphabet reject p next = record { rows = []; accepting = []; exit = next; next = suc next }
-  statementPart alphabet (if c o b) p next =
+  statementPart alphabet (accept t) p next = record { rows = []; accepting = p ∷ []; exit = next; next = suc next }
+  statementPart alphabet (reject t) p next = record { rows = []; accepting = []; exit = next; next = suc next }
+  statementPart alphabet (if t c o b e) p next =
       let tests : Added = test alphabet c p (next + 1) (next + 2) (next + 3) in
       let yesPart : Part = statementsPart alphabet b (next + 1) (tests .next) in
-      let noPart : Part = record { rows = []; accepting = []; exit = next + 2; next = yesPart .next } in
-      ifPart tests yesPart noPart next
-  statementPart alphabet (ifElse c o b o′ b′) p next =
-      let tests : Added = test alphabet c p (next + 1) (next + 2) (next + 3) in
-      let yesPart : Part = statementsPart alphabet b (next + 1) (tests .next) in
-      ifPart tests yesPart (statementsPart alphabet b′ (next + 2) (yesPart .next)) next
-  statementPart alphabet (while c o b) p next =
+      ifPart tests yesPart (restPart alphabet e (next + 2) (yesPart .next)) next
+  statementPart alphabet (while t c o b) p next =
       let tests : Added = test alphabet c p (next + 1) next (next + 2) in
       loopPart (tests .rows) (statementsPart alphabet b (next + 1) (tests .next)) p next
-  statementPart alphabet (choose o b) p next =
+  statementPart alphabet (choose t o b) p next =
       loopPart
       (free p (next + 1) ∷ free p next ∷ [])
       (statementsPart alphabet b (next + 1) (next + 2))
       p
       next
-  statementPart alphabet (branch o b a) p next =
+  statementPart alphabet (branch t o b a) p next =
       let first : Part = armPart (statementsPart alphabet b (next + 1) (next + 2)) p (next + 1) next in
       andThen first (armsPart alphabet a p next (first .next))
 
+  -- the else-block, empty if absent
+  pub restPart : List ℕ → Rest → ℕ → ℕ → Part
+  restPart alphabet nothing p next = emptyPart p next
+  restPart alphabet (else o b) p next = statementsPart alphabet b p next
+
   pub statementsPart : List ℕ → Statements → ℕ → ℕ → Part
-  statementsPart alphabet done p next = record { rows = []; accepting = []; exit = p; next = next }
+  statementsPart alphabet done p next = emptyPart p next
   statementsPart alphabet (a then b) p next =
       let first : Part = statementPart alphabet a p next in
       andThen first (statementsPart alphabet b (first .exit) (first .next))

@@ -117,6 +117,7 @@ module _ {text : List ℕ} {from : ℕ} {lead : Ts → Ts} {x : Symbol} where
                 ending = g′ .ending;
                 here = rw (← front-token f, ← once .0, ← once .1) (f .all);
                 there = g′ .there;
+                place = g′ .place;
                 tree = g′ .tree;
                 derived = g′ .derived;
                 zeroed = g′ .zeroed;
@@ -135,8 +136,8 @@ module _ {text : List ℕ} {from : ℕ} {lead : Ts → Ts} {x : Symbol} where
         }
 
     -- the last token of an atom
-    pub test-found : {atom : Atom} (tree : Tree.Atom)
-        → ((ts : Ts) → IsAtom (lead ((tokenOf k at p) ∷ ts)) tree ts)
+    pub test-found : {atom : Atom} {place : ℕ} (tree : Tree.Atom)
+        → ((ts : Ts) → IsAtom (lead ((tokenOf k at p) ∷ ts)) place tree ts)
         → Zeroed tree
         → atom ≡ atomOf tree
         → Tests text from lead x (Found atom q)
@@ -149,6 +150,7 @@ module _ {text : List ℕ} {from : ℕ} {lead : Ts → Ts} {x : Symbol} where
                 ending = f .ending;
                 here = rw (← front-token f) (f .all);
                 there = f .rest;
+                place = _;
                 tree = tree;
                 derived = h (f .after);
                 zeroed = g;
@@ -169,12 +171,12 @@ counterOf false n = Tree.counterIsNot n
 
 is-read : (equal : Bool) {ts us : Ts} {x : Tree.Sought} (p q : ℕ)
     → IsSought ts x us
-    → IsAtom ((w "read" at p) ∷ (compared equal at q) ∷ ts) (readOf equal x) us
+    → IsAtom ((w "read" at p) ∷ (compared equal at q) ∷ ts) p (readOf equal x) us
 is-read true p q h = Grammar.readIs h
 is-read false p q h = Grammar.readIsNot h
 
 is-counter : (equal : Bool) (p q r : ℕ) (n : List ℕ) (ts : Ts)
-    → IsAtom ((w "c" at p) ∷ (compared equal at q) ∷ (Spelt.number n at r) ∷ ts) (counterOf equal (record { digits = n; place = r })) ts
+    → IsAtom ((w "c" at p) ∷ (compared equal at q) ∷ (Spelt.number n at r) ∷ ts) p (counterOf equal (record { digits = n; place = r })) ts
 is-counter true p q r n ts = Grammar.counterIs
 is-counter false p q r n ts = Grammar.counterIsNot
 
@@ -270,8 +272,8 @@ rows-most k (Atom.Read equal x) = omega arith
 rows-most k (Atom.Counter zero) = omega arith
 
 -- the machine takes an atom that breaks no limit, and counts its rows
-atom-runs : (n : ℕ) (t : Totals) (st : Stack) (e : Ending) {ts us : Ts} {x : Tree.Atom}
-    → IsAtom ts x us
+atom-runs : (n : ℕ) (t : Totals) (st : Stack) (e : Ending) {p : ℕ} {ts us : Ts} {x : Tree.Atom}
+    → IsAtom ts p x us
     → atomFaults (t .alphabet) x ≡ []
     → run (operand n ∷ st) t ts e ≡ run st (counted 0 (rowsOf (length (t .alphabet)) (atomOf x)) t) us e
 unfolding run move atomFaults
@@ -340,8 +342,8 @@ sought-stops t st e equal q (Grammar.aLetter {p = p} {b = b}) h =
 sought-stops t st e equal q Grammar.lend h = no-stray q h
 sought-stops t st e equal q Grammar.rend h = no-stray q h
 
-atom-stops : (n : ℕ) (t : Totals) (st : Stack) (e : Ending) (q : ℕ) {ts us : Ts} {x : Tree.Atom}
-    → IsAtom ts x us
+atom-stops : (n : ℕ) (t : Totals) (st : Stack) (e : Ending) (q : ℕ) {p : ℕ} {ts us : Ts} {x : Tree.Atom}
+    → IsAtom ts p x us
     → strayOf (t .alphabet) (atomOf x) ≡ Stray.At q
     → run (operand n ∷ st) t ts e ≡ refused 6 q
 unfolding run move

@@ -51,20 +51,25 @@ use Rattle.rule.specs.Tree.{
   accept,
   reject,
   if,
-  ifElse,
   while,
   choose,
   branch,
+  Rest,
+  nothing,
+  else,
   Statements,
   done,
   _then_,
   Arms,
   lastArm,
   moreArms,
+  Order,
+  alphabetFirst,
+  decrementFirst,
   Program,
   letterBytes,
 }
-use Rattle.rule.specs.Limits.{Fault, faultIf, letterFaults, numberFaults, soughtFaults, atomFaults, tooDeep, conditionFaults, plainFaults, statementFaults, statementsFaults, armsFaults, faults}
+use Rattle.rule.specs.Limits.{Fault, faultIf, letterFaults, numberFaults, soughtFaults, atomFaults, tooDeep, conditionFaults, plainFaults, statementFaults, restFaults, statementsFaults, armsFaults, truthFaults, inOrder, settingsFaults, faults}
 use Rattle.rule.specs.Faults.{FirstFault, noToken, notHere, early, limit}
 
 -- faults of the limits have numbers 5 to 9
@@ -113,7 +118,7 @@ atom-numbered alphabet (counterIsNot n) = number-numbered 0 n
 
 condition-numbered : (alphabet : List ℕ) (opened : ℕ) (c : Condition) → Numbered (conditionFaults alphabet opened c)
 unfolding conditionFaults
-condition-numbered alphabet opened (atom a) = atom-numbered alphabet a
+condition-numbered alphabet opened (atom p a) = atom-numbered alphabet a
 condition-numbered alphabet opened (parens p c) = join (deep opened p) (condition-numbered alphabet (suc opened) c)
 condition-numbered alphabet opened (negation p c) = join (deep opened p) (condition-numbered alphabet (suc opened) c)
 condition-numbered alphabet opened (both c d) = join (condition-numbered alphabet opened c) (condition-numbered alphabet opened d)
@@ -134,24 +139,24 @@ ninth : (arms p : ℕ) → Numbered (faultIf (leb 8 arms) 9 p)
 ninth arms p = fault-if _ 9 _ (omega arith) (omega arith)
 
 mutual
-  unfolding statementFaults statementsFaults armsFaults
+  unfolding statementFaults restFaults statementsFaults armsFaults
 
   statement-numbered : (s : Statement) (alphabet : List ℕ) (opened : ℕ) → Numbered (statementFaults alphabet opened s)
-  statement-numbered (plain e) alphabet opened = plain-numbered e
-  statement-numbered accept alphabet opened = no-fault
-  statement-numbered reject alphabet opened = no-fault
-  statement-numbered (if c o b) alphabet opened =
-      join (condition-numbered alphabet 0 c) (join (deep opened o) (statements-numbered b alphabet (suc opened)))
-  statement-numbered (ifElse c o b o′ b′) alphabet opened =
+  statement-numbered (plain p e) alphabet opened = plain-numbered e
+  statement-numbered (accept p) alphabet opened = no-fault
+  statement-numbered (reject p) alphabet opened = no-fault
+  statement-numbered (if p c o b e) alphabet opened =
       join (condition-numbered alphabet 0 c)
-      (join (deep opened o)
-      (join (statements-numbered b alphabet (suc opened))
-      (join (deep opened o′) (statements-numbered b′ alphabet (suc opened)))))
-  statement-numbered (while c o b) alphabet opened =
+      (join (deep opened o) (join (statements-numbered b alphabet (suc opened)) (rest-numbered e alphabet opened)))
+  statement-numbered (while p c o b) alphabet opened =
       join (condition-numbered alphabet 0 c) (join (deep opened o) (statements-numbered b alphabet (suc opened)))
-  statement-numbered (choose o b) alphabet opened = join (deep opened o) (statements-numbered b alphabet (suc opened))
-  statement-numbered (branch o b a) alphabet opened =
+  statement-numbered (choose p o b) alphabet opened = join (deep opened o) (statements-numbered b alphabet (suc opened))
+  statement-numbered (branch p o b a) alphabet opened =
       join (deep opened o) (join (statements-numbered b alphabet (suc opened)) (arms-numbered a alphabet opened 1))
+
+  rest-numbered : (e : Rest) (alphabet : List ℕ) (opened : ℕ) → Numbered (restFaults alphabet opened e)
+  rest-numbered nothing alphabet opened = no-fault
+  rest-numbered (else o b) alphabet opened = join (deep opened o) (statements-numbered b alphabet (suc opened))
 
   statements-numbered : (b : Statements) (alphabet : List ℕ) (opened : ℕ) → Numbered (statementsFaults alphabet opened b)
   statements-numbered done alphabet opened = no-fault
@@ -164,10 +169,19 @@ mutual
       join (ninth arms p)
       (join (deep opened o) (join (statements-numbered b alphabet (suc opened)) (arms-numbered a alphabet opened (suc arms))))
 
+in-order : {fs gs : List Fault} (o : Order) → Numbered fs → Numbered gs → Numbered (inOrder o fs gs)
+unfolding inOrder
+in-order alphabetFirst a b = join a b
+in-order decrementFirst a b = join b a
+
+settings-numbered : (p : Program) → Numbered (settingsFaults p)
+unfolding settingsFaults truthFaults
+settings-numbered p = in-order (p .first) (letters-numbered (p .alphabet) []) no-fault
+
 program-numbered : (p : Program) → Numbered (faults p)
 unfolding faults
 program-numbered p =
-    join (letters-numbered (p .alphabet) [])
+    join (settings-numbered p)
     (join (deep 0 (p .brace)) (statements-numbered (p .body) (letterBytes (p .alphabet)) 1))
 
 pub fault-bounds : {text : List ℕ} {n p : ℕ} → FirstFault text n p → (3 ≤ n) × (n ≤ 9) × (p ≤ length text)

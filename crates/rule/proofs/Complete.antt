@@ -8,7 +8,7 @@ use lib.Dec.{T, leb}
 use Rattle.text.specs.Token.{Token, s}
 use Rattle.text.specs.Tokens.{_at_}
 use Rattle.rule.specs.Tree as Tree
-use Rattle.rule.specs.Tree.{Letter, Sought, Atom, Condition, Plain, Statement, Statements, Arms, Program, done, _then_}
+use Rattle.rule.specs.Tree.{Letter, Sought, Atom, Condition, Plain, Statement, Rest, Statements, Arms, Order, Program, done, _then_}
 use Rattle.rule.specs.Grammar as Grammar
 use Rattle.rule.specs.Grammar.{
   IsSought,
@@ -20,6 +20,7 @@ use Rattle.rule.specs.Grammar.{
   IsCondition,
   IsPlain,
   IsStatement,
+  IsRest,
   IsArms,
   IsBlock,
   IsStatements,
@@ -42,9 +43,12 @@ use Rattle.rule.proofs.Far.{
   conditionFar,
   plainFar,
   statementFar,
+  restFar,
   statementsFar,
   armsFar,
   lettersFar,
+  truthFar,
+  settingsFar,
   programFar,
 }
 
@@ -60,7 +64,7 @@ sought-eats Grammar.aLetter st a k = refl
 sought-eats Grammar.lend st a k = refl
 sought-eats Grammar.rend st a k = refl
 
-atom-eats : {ts us : Ts} {x : Atom} (n : ℕ) → IsAtom ts x us → Eats (operand n) ts (Tree.atom x) (atomFar x) us
+atom-eats : {p : ℕ} {ts us : Ts} {x : Atom} (n : ℕ) → IsAtom ts p x us → Eats (operand n) ts (Tree.atom p x) (atomFar x) us
 unfolding eat atomFar
 atom-eats n (Grammar.readIs x) st a k = sought-eats x st _ _
 atom-eats n (Grammar.readIsNot x) st a k = sought-eats x st _ _
@@ -69,7 +73,7 @@ atom-eats n Grammar.counterIsNot st a k = refl
 
 -- a conjunction with its last operand changed so
 unfoldable extended : Condition → (Condition → Condition) → Condition
-extended (Tree.atom a) f = f (Tree.atom a)
+extended (Tree.atom p a) f = f (Tree.atom p a)
 extended (Tree.parens p c) f = f (Tree.parens p c)
 extended (Tree.negation p c) f = f (Tree.negation p c)
 extended (Tree.both c d) f = Tree.both c (extended d f)
@@ -77,7 +81,7 @@ extended (Tree.either c d) f = f (Tree.either c d)
 
 extended-same : (c : Condition) → extended c (λ d. d) ≡ c
 unfolding extended
-extended-same (Tree.atom a) = refl
+extended-same (Tree.atom p a) = refl
 extended-same (Tree.parens p c) = refl
 extended-same (Tree.negation p c) = refl
 extended-same (Tree.both c d) = ap (Tree.both c) (extended-same d)
@@ -136,10 +140,10 @@ condition-eats (Grammar.either {c = c} {d = c′} d e) =
     ∙ condition-eats e n vs st _ (λ x vs. k (Tree.either (extended c (λ y. y)) x) vs) i
     ∙ ap (λ (x : Condition). eat (state st (conditionFar n (Tree.either c c′) a) (k (Tree.either x c′))) vs) (extended-same c)
 
-plain-eats : {ts us : Ts} {x : Plain} → IsPlain ts x us
+plain-eats : {p : ℕ} {ts us : Ts} {x : Plain} → IsPlain ts p x us
     → (d : ℕ) (st : Stack) (a : Far) (k : Values (statements d ∷ st) → Program)
     → eat (state (statements d ∷ st) a k) ts
-    ≡ eat (state (statements d ∷ st) (plainFar x (counts 1 1 a)) (λ (b, vs). k (Tree.plain x then b, vs))) us
+    ≡ eat (state (statements d ∷ st) (plainFar x (counts 1 1 a)) (λ (b, vs). k (Tree.plain p x then b, vs))) us
 unfolding eat plainFar
 plain-eats Grammar.moveBy d st a k = refl
 plain-eats Grammar.moveBack d st a k = refl
@@ -169,8 +173,7 @@ statements-start (Grammar.next (Grammar.plain Grammar.add) b) i = starts tt tt
 statements-start (Grammar.next (Grammar.plain Grammar.subtract) b) i = starts tt tt
 statements-start (Grammar.next Grammar.accept b) i = starts tt tt
 statements-start (Grammar.next Grammar.reject b) i = starts tt tt
-statements-start (Grammar.next (Grammar.if c d) b) i = starts tt tt
-statements-start (Grammar.next (Grammar.ifElse c d e) b) i = starts tt tt
+statements-start (Grammar.next (Grammar.if c d e) b) i = starts tt tt
 statements-start (Grammar.next (Grammar.while c d) b) i = starts tt tt
 statements-start (Grammar.next (Grammar.choose d) b) i = starts tt tt
 statements-start (Grammar.next (Grammar.branch d a) b) i = starts tt tt
@@ -179,7 +182,7 @@ statements-start (Grammar.next (Grammar.branch d a) b) i = starts tt tt
 no-else : {ts : Ts} → Starts ts
     → (d : ℕ) (st : Stack) (a : Far) (k : Values (orElse d ∷ st) → Program)
     → eat (state (orElse d ∷ st) a k) ts
-    ≡ eat (state (statements d ∷ st) a (λ (b, vs). k ((λ c o e. Tree.if c o e then b), vs))) ts
+    ≡ eat (state (statements d ∷ st) a (λ (b, vs). k ((Tree.nothing, b), vs))) ts
 no-else (starts h g) d st a k = eat-no-else d st a k _ _ _ h
 
 no-also : {ts : Ts} → Starts ts
@@ -210,14 +213,21 @@ mutual
   statement-eats (Grammar.plain e) f d st a k = plain-eats e d st a k
   statement-eats Grammar.accept f d st a k = refl
   statement-eats Grammar.reject f d st a k = refl
-  statement-eats (Grammar.if c b) f d st a k =
-      condition-eats c 0 _ _ _ (λ x ((o, y), (e, vs)). k (e x o y, vs)) is ∙ block-eats b d _ _ _ ∙ no-else f d st _ _
-  statement-eats (Grammar.ifElse c b b′) f d st a k =
-      condition-eats c 0 _ _ _ (λ x ((o, y), (e, vs)). k (e x o y, vs)) is ∙ block-eats b d _ _ _ ∙ block-eats b′ d _ _ _
-  statement-eats (Grammar.while c b) f d st a k =
-      condition-eats c 0 _ _ _ (λ x ((o, y), (e, vs)). k (Tree.while x o y then e, vs)) is ∙ block-eats b d _ _ _
+  statement-eats (Grammar.if {p = p} c b e) f d st a k =
+      condition-eats c 0 _ _ _ (λ x ((o, y), ((z, r), vs)). k (Tree.if p x o y z then r, vs)) is
+      ∙ block-eats b d _ _ _
+      ∙ rest-eats e f d st _ _
+  statement-eats (Grammar.while {p = p} c b) f d st a k =
+      condition-eats c 0 _ _ _ (λ x ((o, y), (e, vs)). k (Tree.while p x o y then e, vs)) is ∙ block-eats b d _ _ _
   statement-eats (Grammar.choose b) f d st a k = block-eats b d _ _ _
   statement-eats (Grammar.branch b x) f d st a k = block-eats b d _ _ _ ∙ arms-eats x f d 1 st _ _
+
+  rest-eats : {ts us : Ts} {x : Rest} → IsRest ts x us → Starts us
+      → (d : ℕ) (st : Stack) (a : Far) (k : Values (orElse d ∷ st) → Program)
+      → eat (state (orElse d ∷ st) a k) ts
+      ≡ eat (state (statements d ∷ st) (restFar d x a) (λ (b, vs). k ((x, b), vs))) us
+  rest-eats Grammar.nothing f d st a k = no-else f d st a k
+  rest-eats (Grammar.else b) f d st a k = block-eats b d _ _ _
 
   arms-eats : {ts us : Ts} {x : Arms} → IsArms ts x us → Starts us
       → (d n : ℕ) (st : Stack) (a : Far) (k : Values (arms d n ∷ st) → Program)
@@ -246,21 +256,21 @@ alphabet-eats : {ts us : Ts} {l : List Letter} → IsAlphabet ts l us → Eats M
 unfolding eat
 alphabet-eats (Grammar.alphabet l) st a k = letters-eats l is _ _ _
 
-decrement-eats : {ts us : Ts} {d : Bool} → IsDecrement ts d us → Eats Machine.decrement ts d (λ a. a) us
-unfolding eat
+decrement-eats : {p : ℕ} {ts us : Ts} {d : Bool} → IsDecrement ts d p us → Eats Machine.decrement ts (d, p) (truthFar d p) us
+unfolding eat truthFar
 decrement-eats Grammar.isTrue st a k = refl
 decrement-eats Grammar.isFalse st a k = refl
 
-settings-eats : {ts us : Ts} {l : List Letter} {d : Bool} → IsSettings ts l d us
+settings-eats : {p : ℕ} {ts us : Ts} {f : Order} {l : List Letter} {d : Bool} → IsSettings ts f l d p us
     → (st : Stack) (a : Far) (k : Values (Machine.program ∷ st) → Program)
     → eat (state (Machine.program ∷ st) a k) ts
     ≡ eat
     (state
     (Machine.body ∷ st)
-    (lettersFar l a)
-    (λ ((o, b), vs). k (record { alphabet = l; stops = d; brace = o; body = b }, vs)))
+    (settingsFar f l d p a)
+    (λ ((o, b), vs). k (record { first = f; alphabet = l; stops = d; truth = p; brace = o; body = b }, vs)))
     us
-unfolding eat
+unfolding eat settingsFar
 settings-eats (Grammar.alphabetFirst (Grammar.alphabet l) d) st a k = letters-eats l is _ _ _ ∙ decrement-eats d _ _ _
 settings-eats (Grammar.decrementFirst Grammar.isTrue l) st a k = alphabet-eats l _ _ _
 settings-eats (Grammar.decrementFirst Grammar.isFalse l) st a k = alphabet-eats l _ _ _

@@ -36,16 +36,21 @@ use Rattle.rule.specs.Tree.{
   accept,
   reject,
   if,
-  ifElse,
   while,
   choose,
   branch,
+  Rest,
+  nothing,
+  else,
   Statements,
   done,
   _then_,
   Arms,
   lastArm,
   moreArms,
+  Order,
+  alphabetFirst,
+  decrementFirst,
   Program,
 }
 use Rattle.rule.specs.Limits.{isIn}
@@ -77,7 +82,7 @@ atomFar (counterIsNot n) s = numberFar 0 n (counts 0 2 s)
 
 unfoldable pub conditionFar : ℕ → Condition → Far → Far
 unfolding atomFar
-conditionFar n (atom a) s = atomFar a s
+conditionFar n (atom p a) s = atomFar a s
 conditionFar n (parens p c) s = conditionFar (suc n) c (notes (leb 16 n) 8 p s)
 conditionFar n (negation p c) s = conditionFar (suc n) c (notes (leb 16 n) 8 p s)
 conditionFar n (both c d) s = conditionFar n d (counts 1 0 (conditionFar n c s))
@@ -97,18 +102,18 @@ unfoldable mutual
   unfolding conditionFar plainFar
 
   pub statementFar : ℕ → Statement → Far → Far
-  statementFar d (plain e) s = plainFar e (counts 1 1 s)
-  statementFar d accept s = counts 1 0 s
-  statementFar d reject s = counts 1 0 s
-  statementFar d (if c o b) s = statementsFar (suc d) b (notes (leb 16 d) 8 o (conditionFar 0 c (counts 3 2 s)))
-  statementFar d (ifElse c o b o′ b′) s =
-      statementsFar
-      (suc d)
-      b′
-      (notes (leb 16 d) 8 o′ (statementsFar (suc d) b (notes (leb 16 d) 8 o (conditionFar 0 c (counts 3 2 s)))))
-  statementFar d (while c o b) s = statementsFar (suc d) b (notes (leb 16 d) 8 o (conditionFar 0 c (counts 2 1 s)))
-  statementFar d (choose o b) s = statementsFar (suc d) b (notes (leb 16 d) 8 o (counts 2 3 s))
-  statementFar d (branch o b a) s = armsFar d 1 a (statementsFar (suc d) b (notes (leb 16 d) 8 o (counts 2 2 s)))
+  statementFar d (plain p e) s = plainFar e (counts 1 1 s)
+  statementFar d (accept p) s = counts 1 0 s
+  statementFar d (reject p) s = counts 1 0 s
+  statementFar d (if p c o b e) s =
+      restFar d e (statementsFar (suc d) b (notes (leb 16 d) 8 o (conditionFar 0 c (counts 3 2 s))))
+  statementFar d (while p c o b) s = statementsFar (suc d) b (notes (leb 16 d) 8 o (conditionFar 0 c (counts 2 1 s)))
+  statementFar d (choose p o b) s = statementsFar (suc d) b (notes (leb 16 d) 8 o (counts 2 3 s))
+  statementFar d (branch p o b a) s = armsFar d 1 a (statementsFar (suc d) b (notes (leb 16 d) 8 o (counts 2 2 s)))
+
+  pub restFar : ℕ → Rest → Far → Far
+  restFar d nothing s = s
+  restFar d (else o b) s = statementsFar (suc d) b (notes (leb 16 d) 8 o s)
 
   pub statementsFar : ℕ → Statements → Far → Far
   statementsFar d done s = s
@@ -129,6 +134,15 @@ lettersFar (l ∷ ls) s =
       seen = noted (excess (l .byte) (s .totals .alphabet)) 5 (l .place) (s .seen);
     })
 
+unfoldable pub truthFar : Bool → ℕ → Far → Far
+truthFar d p s = s
+
+unfoldable pub settingsFar : Order → List Letter → Bool → ℕ → Far → Far
+unfolding lettersFar truthFar
+settingsFar alphabetFirst l d p s = truthFar d p (lettersFar l s)
+settingsFar decrementFirst l d p s = lettersFar l (truthFar d p s)
+
 unfoldable pub programFar : Program → Far → Far
-unfolding lettersFar statementsFar
-programFar p s = statementsFar 1 (p .body) (notes (leb 16 0) 8 (p .brace) (lettersFar (p .alphabet) s))
+unfolding settingsFar statementsFar
+programFar p s =
+    statementsFar 1 (p .body) (notes (leb 16 0) 8 (p .brace) (settingsFar (p .first) (p .alphabet) (p .stops) (p .truth) s))

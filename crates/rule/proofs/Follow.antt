@@ -9,7 +9,7 @@ use Rattle.text.specs.Token.{Token}
 use Rattle.text.specs.Tokens.{_at_, Ending, ends, broken}
 use Rattle.text.proofs.Same.{sameToken}
 use Rattle.rule.specs.Tree as Tree
-use Rattle.rule.specs.Tree.{Program, _then_}
+use Rattle.rule.specs.Tree.{Program}
 use Rattle.rule.specs.Inside.Class.{Mark, spell, Class, mark, number, letter, other, classify}
 use Rattle.rule.specs.Inside.Machine.{
   Symbol,
@@ -140,7 +140,7 @@ module _ (x y : Symbol) (f : Value y → Value x) (m : Mark)
 
 -- where no `else` comes first, statements are expected
 pub run-no-else : (d : ℕ) (st : Stack) (t : Totals) (ts : Ts) (e : Ending) → T (notFirst Mark.else ts) → run (orElse d ∷ st) t ts e ≡ run (statements d ∷ st) t ts e
-run-no-else d = run-alike (orElse d) (statements d) (λ a c o b. Tree.if c o b then a) Mark.else (λ t p. (_, refl))
+run-no-else d = run-alike (orElse d) (statements d) (λ a. (Tree.nothing, a)) Mark.else (λ t p. (_, refl))
 
 -- where no `also` comes first, statements are expected
 pub run-no-also : (d n : ℕ) (st : Stack) (t : Totals) (ts : Ts) (e : Ending) → T (notFirst Mark.also ts) → run (orAlso d n ∷ st) t ts e ≡ run (statements d ∷ st) t ts e
@@ -150,8 +150,8 @@ run-no-also d n = run-alike (orAlso d n) (statements d) (λ b. (Tree.lastArm, b)
 pub eat-no-else : (d : ℕ) (st : Stack) (a : Far) (k : Values (orElse d ∷ st) → Program) (u : Token) (p : ℕ) (ts : Ts)
     → T (unlike Mark.else (classify u))
     → eat (state (orElse d ∷ st) a k) ((u at p) ∷ ts)
-    ≡ eat (state (statements d ∷ st) a (λ (b, vs). k ((λ c o e. Tree.if c o e then b), vs))) ((u at p) ∷ ts)
-eat-no-else d = eat-alike (orElse d) (statements d) (λ a c o b. Tree.if c o b then a) Mark.else (λ t p. (_, refl))
+    ≡ eat (state (statements d ∷ st) a (λ (b, vs). k ((Tree.nothing, b), vs))) ((u at p) ∷ ts)
+eat-no-else d = eat-alike (orElse d) (statements d) (λ a. (Tree.nothing, a)) Mark.else (λ t p. (_, refl))
 
 pub eat-no-also : (d n : ℕ) (st : Stack) (a : Far) (k : Values (orAlso d n ∷ st) → Program) (u : Token) (p : ℕ) (ts : Ts)
     → T (unlike Mark.also (classify u))

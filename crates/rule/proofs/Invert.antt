@@ -2,10 +2,10 @@
 use Prim.Native.Nat.{ℕ}
 use mathlib.Core.Path.{_≡_, refl}
 use mathlib.Core.List.{List, _∷_}
-use Rattle.text.specs.Token.{number, w, s}
+use Rattle.text.specs.Token.{Token, number, w, s}
 use Rattle.text.specs.Tokens.{_at_}
 use Rattle.rule.specs.Tree as Tree
-use Rattle.rule.specs.Tree.{Condition, Plain, Statement, Statements, Arms}
+use Rattle.rule.specs.Tree.{Condition, Plain, Statement, Rest, Statements, Arms}
 use Rattle.rule.specs.Grammar.{
   Ts,
   loosest,
@@ -24,10 +24,10 @@ use Rattle.rule.specs.Grammar.{
   accept,
   reject,
   if,
-  ifElse,
   while,
   choose,
   branch,
+  IsRest,
   IsArms,
   lastArm,
   moreArms,
@@ -44,7 +44,7 @@ pub data Move : Ts → Plain → Ts → Type 0 where
   back : {q o r u v : ℕ} {n : List ℕ} {us : Ts}
       → Move ((s "(" at q) ∷ (s "-" at o) ∷ (number n at r) ∷ (s ")" at u) ∷ (s ";" at v) ∷ us) (Tree.moveBack (record { digits = n; place = r })) us
 
-plain-move : {k : ℕ} {ts us : Ts} {e : Plain} → IsPlain ((w "move" at k) ∷ ts) e us → Move ts e us
+plain-move : {k p : ℕ} {ts us : Ts} {e : Plain} → IsPlain ((w "move" at k) ∷ ts) p e us → Move ts e us
 plain-move moveBy = forward
 plain-move moveBack = back
 
@@ -53,7 +53,7 @@ pub data Goto : Ts → Plain → Ts → Type 0 where
   toLend : {q r u v : ℕ} {us : Ts} → Goto ((s "(" at q) ∷ (w "lend" at r) ∷ (s ")" at u) ∷ (s ";" at v) ∷ us) Tree.gotoLend us
   toRend : {q r u v : ℕ} {us : Ts} → Goto ((s "(" at q) ∷ (w "rend" at r) ∷ (s ")" at u) ∷ (s ";" at v) ∷ us) Tree.gotoRend us
 
-plain-goto : {k : ℕ} {ts us : Ts} {e : Plain} → IsPlain ((w "goto" at k) ∷ ts) e us → Goto ts e us
+plain-goto : {k p : ℕ} {ts us : Ts} {e : Plain} → IsPlain ((w "goto" at k) ∷ ts) p e us → Goto ts e us
 plain-goto gotoLend = toLend
 plain-goto gotoRend = toRend
 
@@ -66,99 +66,104 @@ pub data Change : Ts → Plain → Ts → Type 0 where
   downBy : {q r v : ℕ} {n : List ℕ} {us : Ts}
       → Change ((s "-=" at q) ∷ (number n at r) ∷ (s ";" at v) ∷ us) (Tree.subtract (record { digits = n; place = r })) us
 
-plain-change : {k : ℕ} {ts us : Ts} {e : Plain} → IsPlain ((w "c" at k) ∷ ts) e us → Change ts e us
+plain-change : {k p : ℕ} {ts us : Ts} {e : Plain} → IsPlain ((w "c" at k) ∷ ts) p e us → Change ts e us
 plain-change increment = up
 plain-change decrement = down
 plain-change add = upBy
 plain-change subtract = downBy
 
--- a plain statement of a kind
-pub record PlainOf (kind : Ts → Plain → Ts → Type 0) (ts : Ts) (a : Statement) (us : Ts) : Type 0 where
+-- a plain statement of a kind, whose first word stands there
+pub record PlainOf (kind : Ts → Plain → Ts → Type 0) (k : ℕ) (ts : Ts) (a : Statement) (us : Ts) : Type 0 where
   pub effect : Plain
-  pub is : a ≡ Tree.plain effect
+  pub is : a ≡ Tree.plain k effect
   pub derived : kind ts effect us
 
-pub statement-move : {k : ℕ} {ts us : Ts} {a : Statement} → IsStatement ((w "move" at k) ∷ ts) a us → PlainOf Move ts a us
-statement-move (plain d) = record { effect = _; is = refl; derived = plain-move d }
+plain-place : {k p : ℕ} {t : Token} {ts us : Ts} {e : Plain} → IsPlain ((t at k) ∷ ts) p e us → Tree.plain p e ≡ Tree.plain k e
+plain-place moveBy = refl
+plain-place moveBack = refl
+plain-place gotoLend = refl
+plain-place gotoRend = refl
+plain-place increment = refl
+plain-place decrement = refl
+plain-place add = refl
+plain-place subtract = refl
 
-pub statement-goto : {k : ℕ} {ts us : Ts} {a : Statement} → IsStatement ((w "goto" at k) ∷ ts) a us → PlainOf Goto ts a us
-statement-goto (plain d) = record { effect = _; is = refl; derived = plain-goto d }
+pub statement-move : {k : ℕ} {ts us : Ts} {a : Statement} → IsStatement ((w "move" at k) ∷ ts) a us → PlainOf Move k ts a us
+statement-move (plain d) = record { effect = _; is = plain-place d; derived = plain-move d }
 
-pub statement-change : {k : ℕ} {ts us : Ts} {a : Statement} → IsStatement ((w "c" at k) ∷ ts) a us → PlainOf Change ts a us
-statement-change (plain d) = record { effect = _; is = refl; derived = plain-change d }
+pub statement-goto : {k : ℕ} {ts us : Ts} {a : Statement} → IsStatement ((w "goto" at k) ∷ ts) a us → PlainOf Goto k ts a us
+statement-goto (plain d) = record { effect = _; is = plain-place d; derived = plain-goto d }
+
+pub statement-change : {k : ℕ} {ts us : Ts} {a : Statement} → IsStatement ((w "c" at k) ∷ ts) a us → PlainOf Change k ts a us
+statement-change (plain d) = record { effect = _; is = plain-place d; derived = plain-change d }
 
 -- no plain statement begins with these
-no-accept : {k : ℕ} {ts us : Ts} {e : Plain} → IsPlain ((w "accept" at k) ∷ ts) e us → ⊥
+no-accept : {k p : ℕ} {ts us : Ts} {e : Plain} → IsPlain ((w "accept" at k) ∷ ts) p e us → ⊥
 no-accept = elim [ ]
 
-no-reject : {k : ℕ} {ts us : Ts} {e : Plain} → IsPlain ((w "reject" at k) ∷ ts) e us → ⊥
+no-reject : {k p : ℕ} {ts us : Ts} {e : Plain} → IsPlain ((w "reject" at k) ∷ ts) p e us → ⊥
 no-reject = elim [ ]
 
-no-if : {k : ℕ} {ts us : Ts} {e : Plain} → IsPlain ((w "if" at k) ∷ ts) e us → ⊥
+no-if : {k p : ℕ} {ts us : Ts} {e : Plain} → IsPlain ((w "if" at k) ∷ ts) p e us → ⊥
 no-if = elim [ ]
 
-no-while : {k : ℕ} {ts us : Ts} {e : Plain} → IsPlain ((w "while" at k) ∷ ts) e us → ⊥
+no-while : {k p : ℕ} {ts us : Ts} {e : Plain} → IsPlain ((w "while" at k) ∷ ts) p e us → ⊥
 no-while = elim [ ]
 
-no-branch : {k : ℕ} {ts us : Ts} {e : Plain} → IsPlain ((w "branch" at k) ∷ ts) e us → ⊥
+no-branch : {k p : ℕ} {ts us : Ts} {e : Plain} → IsPlain ((w "branch" at k) ∷ ts) p e us → ⊥
 no-branch = elim [ ]
 
-no-else : {k : ℕ} {ts us : Ts} {e : Plain} → IsPlain ((w "else" at k) ∷ ts) e us → ⊥
+no-else : {k p : ℕ} {ts us : Ts} {e : Plain} → IsPlain ((w "else" at k) ∷ ts) p e us → ⊥
 no-else = elim [ ]
 
-no-also : {k : ℕ} {ts us : Ts} {e : Plain} → IsPlain ((w "also" at k) ∷ ts) e us → ⊥
+no-also : {k p : ℕ} {ts us : Ts} {e : Plain} → IsPlain ((w "also" at k) ∷ ts) p e us → ⊥
 no-also = elim [ ]
 
-no-brace : {k : ℕ} {ts us : Ts} {e : Plain} → IsPlain ((s "}" at k) ∷ ts) e us → ⊥
+no-brace : {k p : ℕ} {ts us : Ts} {e : Plain} → IsPlain ((s "}" at k) ∷ ts) p e us → ⊥
 no-brace = elim [ ]
 
 -- `accept` and `reject` are followed by a semicolon
 pub data Stop (is : Statement) : Ts → Statement → Ts → Type 0 where
   stops : {v : ℕ} {us : Ts} → Stop is ((s ";" at v) ∷ us) is us
 
-pub statement-accept : {k : ℕ} {ts us : Ts} {a : Statement} → IsStatement ((w "accept" at k) ∷ ts) a us → Stop Tree.accept ts a us
+pub statement-accept : {k : ℕ} {ts us : Ts} {a : Statement} → IsStatement ((w "accept" at k) ∷ ts) a us → Stop (Tree.accept k) ts a us
 statement-accept accept = stops
 statement-accept (plain d) = absurd (no-accept d)
 
-pub statement-reject : {k : ℕ} {ts us : Ts} {a : Statement} → IsStatement ((w "reject" at k) ∷ ts) a us → Stop Tree.reject ts a us
+pub statement-reject : {k : ℕ} {ts us : Ts} {a : Statement} → IsStatement ((w "reject" at k) ∷ ts) a us → Stop (Tree.reject k) ts a us
 statement-reject reject = stops
 statement-reject (plain d) = absurd (no-reject d)
 
 -- behind `if`
-pub data If : Ts → Statement → Ts → Type 0 where
-  alone : {q r o : ℕ} {ts us vs : Ts} {c : Condition} {b : Statements}
+pub data If (k : ℕ) : Ts → Statement → Ts → Type 0 where
+  asks : {q r o : ℕ} {ts us vs xs : Ts} {c : Condition} {b : Statements} {e : Rest}
       → IsCondition loosest ts c ((s ")" at r) ∷ us)
       → IsBlock us o b vs
-      → If ((s "(" at q) ∷ ts) (Tree.if c o b) vs
-  orElse : {q r t o o′ : ℕ} {ts us vs xs : Ts} {c : Condition} {b b′ : Statements}
-      → IsCondition loosest ts c ((s ")" at r) ∷ us)
-      → IsBlock us o b ((w "else" at t) ∷ vs)
-      → IsBlock vs o′ b′ xs
-      → If ((s "(" at q) ∷ ts) (Tree.ifElse c o b o′ b′) xs
+      → IsRest vs e xs
+      → If k ((s "(" at q) ∷ ts) (Tree.if k c o b e) xs
 
-pub statement-if : {k : ℕ} {ts us : Ts} {a : Statement} → IsStatement ((w "if" at k) ∷ ts) a us → If ts a us
-statement-if (if c b) = alone c b
-statement-if (ifElse c b b′) = orElse c b b′
+pub statement-if : {k : ℕ} {ts us : Ts} {a : Statement} → IsStatement ((w "if" at k) ∷ ts) a us → If k ts a us
+statement-if (if c b e) = If.asks c b e
 statement-if (plain d) = absurd (no-if d)
 
 -- behind `while`
-pub data While : Ts → Statement → Ts → Type 0 where
+pub data While (k : ℕ) : Ts → Statement → Ts → Type 0 where
   asks : {q r o : ℕ} {ts us vs : Ts} {c : Condition} {b : Statements}
       → IsCondition loosest ts c ((s ")" at r) ∷ us)
       → IsBlock us o b vs
-      → While ((s "(" at q) ∷ ts) (Tree.while c o b) vs
-  chooses : {q o : ℕ} {ts us : Ts} {b : Statements} → IsBlock ts o b us → While ((w "choose" at q) ∷ ts) (Tree.choose o b) us
+      → While k ((s "(" at q) ∷ ts) (Tree.while k c o b) vs
+  chooses : {q o : ℕ} {ts us : Ts} {b : Statements} → IsBlock ts o b us → While k ((w "choose" at q) ∷ ts) (Tree.choose k o b) us
 
-pub statement-while : {k : ℕ} {ts us : Ts} {a : Statement} → IsStatement ((w "while" at k) ∷ ts) a us → While ts a us
+pub statement-while : {k : ℕ} {ts us : Ts} {a : Statement} → IsStatement ((w "while" at k) ∷ ts) a us → While k ts a us
 statement-while (while c b) = asks c b
 statement-while (choose b) = chooses b
 statement-while (plain d) = absurd (no-while d)
 
 -- behind `branch`
-pub data Branch : Ts → Statement → Ts → Type 0 where
-  arms : {o : ℕ} {ts us vs : Ts} {b : Statements} {a : Arms} → IsBlock ts o b us → IsArms us a vs → Branch ts (Tree.branch o b a) vs
+pub data Branch (k : ℕ) : Ts → Statement → Ts → Type 0 where
+  arms : {o : ℕ} {ts us vs : Ts} {b : Statements} {a : Arms} → IsBlock ts o b us → IsArms us a vs → Branch k ts (Tree.branch k o b a) vs
 
-pub statement-branch : {k : ℕ} {ts us : Ts} {a : Statement} → IsStatement ((w "branch" at k) ∷ ts) a us → Branch ts a us
+pub statement-branch : {k : ℕ} {ts us : Ts} {a : Statement} → IsStatement ((w "branch" at k) ∷ ts) a us → Branch k ts a us
 statement-branch (branch b a) = arms b a
 statement-branch (plain d) = absurd (no-branch d)
 

@@ -1,10 +1,10 @@
 -- An alphabet has a letter at least.
-use Prim.Native.Nat.{_≤_}
+use Prim.Native.Nat.{ℕ, _≤_}
 use native.Mathlib.Omega.{arith}
 use mathlib.Core.Bool.{Bool}
 use mathlib.Core.List.{List}
 use lib.ListN.{length}
-use Rattle.rule.specs.Tree.{Letter, Program}
+use Rattle.rule.specs.Tree.{Letter, Order, Program}
 use Rattle.rule.specs.Grammar.{Ts, IsLetters, one, more, alphabet, IsSettings, alphabetFirst, decrementFirst, IsProgram, program}
 
 -- there is a letter at least
@@ -12,7 +12,7 @@ pub some-letter : {ts us : Ts} {l : List Letter} → IsLetters ts l us → 1 ≤
 some-letter one = omega arith
 some-letter (more m) = omega arith
 
-settings-letter : {ts us : Ts} {l : List Letter} {d : Bool} → IsSettings ts l d us → 1 ≤ length l
+settings-letter : {p : ℕ} {ts us : Ts} {f : Order} {l : List Letter} {d : Bool} → IsSettings ts f l d p us → 1 ≤ length l
 settings-letter (alphabetFirst (alphabet m) d) = some-letter m
 settings-letter (decrementFirst d (alphabet m)) = some-letter m
 

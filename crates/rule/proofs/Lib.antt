@@ -12,6 +12,7 @@ pub mod Places
 pub mod Viable
 pub mod Trace
 pub mod Outcomes
+pub mod InOrder
 pub mod Texts
 pub mod Bounds
 pub mod Reasons

@@ -57,7 +57,7 @@ use Rattle.rule.proofs.Trace as Trace
 use Rattle.rule.proofs.Trace.{Passed, Trace, eat-one, passed-runs, passed-end, trace}
 
 -- where the machine is behind a whole program
-abbrev final : Program → State
+abbrev pub final : Program → State
 final x =
     state
     []
@@ -68,7 +68,7 @@ final x =
     (λ vs. x)
 
 -- the machine takes a program to its end
-eats-program : {ts : Ts} {x : Program} → IsProgram ts x → eat begin ts ≡ some (final x)
+pub eats-program : {ts : Ts} {x : Program} → IsProgram ts x → eat begin ts ≡ some (final x)
 eats-program {ts} {x} d = program-eats d (begin .far) (begin .build) ∙ ap (λ a. some (state [] a (λ vs. x))) (program-is x)
 
 passed-final : {ts : Ts} {q : Program} (x : Passed ts) → IsProgram ts q → x .state ≡ final q

@@ -10,9 +10,9 @@ use Rattle.text.specs.Token.{Token, w, s}
 use Rattle.text.specs.Tokens.{_at_}
 use Rattle.text.proofs.Same.{sameToken, same-token}
 use Rattle.rule.specs.Tree as Tree
-use Rattle.rule.specs.Tree.{Number, Letter, Condition, Plain, Statement, Statements, Program, _then_}
+use Rattle.rule.specs.Tree.{Number, Letter, Condition, Plain, Statement, Rest, Statements, Order, Program, _then_}
 use Rattle.rule.specs.Grammar as Grammar
-use Rattle.rule.specs.Grammar.{IsSought, IsAtom, loosest, middle, tightest, IsCondition, IsPlain, IsStatement, IsArms, IsBlock, IsStatements, IsLetters, IsAlphabet, IsDecrement, IsSettings, IsProgram}
+use Rattle.rule.specs.Grammar.{IsSought, IsAtom, loosest, middle, tightest, IsCondition, IsPlain, IsStatement, IsRest, IsArms, IsBlock, IsStatements, IsLetters, IsAlphabet, IsDecrement, IsSettings, IsProgram}
 use Rattle.rule.specs.Inside.Class.{Mark, spell, Class, mark, number, letter, other, tokenOf, classify, token-of-class}
 use Rattle.rule.specs.Inside.Machine as Machine
 use Rattle.rule.specs.Inside.Machine.{Symbol, Stack, Value, Values, Totals, Move, Choice, on, onNumber, onLetter, along, alongChoice, also, statementChoices, choices, take, pick, move}
@@ -33,38 +33,34 @@ Closed ts b us = (q : ℕ) × IsStatements ts b ((s "}" at q) ∷ us)
 -- the tokens of a symbol, what they give, and the tokens after it. What may follow something is said by what becomes of that
 abbrev Means : (x : Symbol) → Ts → Value x → Ts → Type 0
 Means (Machine.exact m) ts v us = Is (spell m) ts us
-Means Machine.program ts v us = (ms : Ts) × IsSettings ts (v .alphabet) (v .stops) ms × IsBody ms (v .brace) (v .body) us
+Means Machine.program ts v us = (ms : Ts) × IsSettings ts (v .first) (v .alphabet) (v .stops) (v .truth) ms × IsBody ms (v .brace) (v .body) us
 Means Machine.alphabet ts l us = IsAlphabet ts l us
-Means Machine.decrement ts d us = IsDecrement ts d us
+Means Machine.decrement ts v us = IsDecrement ts (v .0) (v .1) us
 Means Machine.letters ts l us = (q : ℕ) × IsLetters ts l ((s "]" at q) ∷ us)
 Means Machine.moreLetters ts l us =
     (q : ℕ) × ((p b : ℕ) → IsLetters ((Token.letter b at p) ∷ ts) (record { byte = b; place = p } ∷ l) ((s "]" at q) ∷ us))
-Means Machine.truth ts d us = (p q : ℕ) → IsDecrement ((w "decr_on_zero" at p) ∷ (s "=" at q) ∷ ts) d us
+Means Machine.truth ts v us = (p q : ℕ) → IsDecrement ((w "decr_on_zero" at p) ∷ (s "=" at q) ∷ ts) (v .0) (v .1) us
 Means Machine.body ts v us = IsBody ts (v .0) (v .1) us
 Means (Machine.block d) ts v us = IsBlock ts (v .0) (v .1) us
 Means (Machine.statements d) ts b us = Closed ts b us
-Means (Machine.orElse d) ts f us =
-    (p q r o : ℕ) (t u : Ts) (c : Condition) (b : Statements)
-    → IsCondition loosest t c ((s ")" at r) ∷ u)
-    → IsBlock u o b ts
-    → Closed ((w "if" at p) ∷ (s "(" at q) ∷ t) (f c o b) us
+Means (Machine.orElse d) ts v us = (ms : Ts) × IsRest ts (v .0) ms × Closed ms (v .1) us
 Means (Machine.arms d n) ts v us = (ms : Ts) × IsArms ts (v .0) ms × Closed ms (v .1) us
 Means (Machine.orAlso d n) ts v us =
     (ms : Ts)
     × ((p o : ℕ) (t : Ts) (b : Statements) → IsBlock t o b ts → IsArms ((w "also" at p) ∷ t) (v .0 p o b) ms)
     × Closed ms (v .1) us
-Means (Machine.loop d) ts a us = (p : ℕ) → IsStatement ((w "while" at p) ∷ ts) a us
-Means Machine.distance ts e us = (p q : ℕ) → IsPlain ((w "move" at p) ∷ (s "(" at q) ∷ ts) e us
-Means Machine.end ts e us = (p q : ℕ) → IsPlain ((w "goto" at p) ∷ (s "(" at q) ∷ ts) e us
-Means Machine.change ts e us = (p : ℕ) → IsPlain ((w "c" at p) ∷ ts) e us
+Means (Machine.loop d) ts a us = (p : ℕ) → IsStatement ((w "while" at p) ∷ ts) (a p) us
+Means Machine.distance ts e us = (p q : ℕ) → IsPlain ((w "move" at p) ∷ (s "(" at q) ∷ ts) p e us
+Means Machine.end ts e us = (p q : ℕ) → IsPlain ((w "goto" at p) ∷ (s "(" at q) ∷ ts) p e us
+Means Machine.change ts e us = (p : ℕ) → IsPlain ((w "c" at p) ∷ ts) p e us
 Means (Machine.number greatest) ts n us = IsNumber ts n us
 Means (Machine.operand n) ts c us = IsCondition tightest ts c us
 Means (Machine.tail n) ts v us =
     (ms : Ts)
     × ((t : Ts) (c : Condition) → IsCondition tightest t c ts → IsCondition middle t (v .0 c) ms)
     × ((q : ℕ) × ((t : Ts) (c : Condition) → IsCondition middle t c ms → IsCondition loosest t (v .1 c) ((s ")" at q) ∷ us)))
-Means Machine.readTest ts a us = (p : ℕ) → IsAtom ((w "read" at p) ∷ ts) a us
-Means Machine.counterTest ts a us = (p : ℕ) → IsAtom ((w "c" at p) ∷ ts) a us
+Means Machine.readTest ts a us = (p : ℕ) → IsAtom ((w "read" at p) ∷ ts) p a us
+Means Machine.counterTest ts a us = (p : ℕ) → IsAtom ((w "c" at p) ∷ ts) p a us
 Means Machine.sought ts x us = IsSought ts x us
 
 data Over : Ts → Type 0 where
@@ -107,26 +103,26 @@ then-closed : {ts us vs : Ts} {a : Statement} {b : Statements} → IsStatement t
 then-closed a b = (b .0, Grammar.next a (b .1))
 
 -- statements by their first tokens
-move-keeps : {p : ℕ} {ts us vs : Ts} {e : Plain} → Is (s "(") ts us → Means Machine.distance us e vs → IsStatement ((w "move" at p) ∷ ts) (Tree.plain e) vs
+move-keeps : {p : ℕ} {ts us vs : Ts} {e : Plain} → Is (s "(") ts us → Means Machine.distance us e vs → IsStatement ((w "move" at p) ∷ ts) (Tree.plain p e) vs
 move-keeps is e = Grammar.plain (e _ _)
 
-goto-keeps : {p : ℕ} {ts us vs : Ts} {e : Plain} → Is (s "(") ts us → Means Machine.end us e vs → IsStatement ((w "goto" at p) ∷ ts) (Tree.plain e) vs
+goto-keeps : {p : ℕ} {ts us vs : Ts} {e : Plain} → Is (s "(") ts us → Means Machine.end us e vs → IsStatement ((w "goto" at p) ∷ ts) (Tree.plain p e) vs
 goto-keeps is e = Grammar.plain (e _ _)
 
-accept-keeps : {p : ℕ} {ts us : Ts} → Is (s ";") ts us → IsStatement ((w "accept" at p) ∷ ts) Tree.accept us
+accept-keeps : {p : ℕ} {ts us : Ts} → Is (s ";") ts us → IsStatement ((w "accept" at p) ∷ ts) (Tree.accept p) us
 accept-keeps is = Grammar.accept
 
-reject-keeps : {p : ℕ} {ts us : Ts} → Is (s ";") ts us → IsStatement ((w "reject" at p) ∷ ts) Tree.reject us
+reject-keeps : {p : ℕ} {ts us : Ts} → Is (s ";") ts us → IsStatement ((w "reject" at p) ∷ ts) (Tree.reject p) us
 reject-keeps is = Grammar.reject
 
-if-keeps : {p o : ℕ} {ts us vs ws xs ys : Ts} {c : Condition} {f g : Condition → Condition} {b : Statements} {e : Value (Machine.orElse 0)}
+if-keeps : {p o : ℕ} {ts us vs ws xs ys : Ts} {c : Condition} {f g : Condition → Condition} {b : Statements} {e : Rest}
     → Is (s "(") ts us
     → IsCondition tightest us c vs
     → Means (Machine.tail 0) vs (f, g) ws
     → IsBlock ws o b xs
-    → Means (Machine.orElse 0) xs e ys
-    → Closed ((w "if" at p) ∷ ts) (e (g (f c)) o b) ys
-if-keeps is c t b e = e _ _ _ _ _ _ _ _ (condition c t .1) b
+    → IsRest xs e ys
+    → IsStatement ((w "if" at p) ∷ ts) (Tree.if p (g (f c)) o b e) ys
+if-keeps is c t b e = Grammar.if (condition c t .1) b e
 
 statements-keep : (t : Totals) (p d : ℕ) → KeepsAll Closed p (statementChoices t p d)
 statements-keep t p d =
@@ -136,7 +132,7 @@ statements-keep t p d =
     & (λ st ts vs (_, e, (us, b, r)). (us, then-closed (Grammar.plain (e p)) b, r))
     & (λ st ts vs (_, i, (us, b, r)). (us, then-closed (accept-keeps i) b, r))
     & (λ st ts vs (_, i, (us, b, r)). (us, then-closed (reject-keeps i) b, r))
-    & (λ st ts vs (_, i, (_, c, (_, f, (_, b, (us, e, r))))). (us, if-keeps i c f b e, r))
+    & (λ st ts vs (_, i, (_, c, (_, f, (_, b, (us, (_, e, a), r))))). (us, then-closed (if-keeps i c f b e) a, r))
     & (λ st ts vs (_, a, (us, b, r)). (us, then-closed (a p) b, r))
     & (λ st ts vs (_, b, (us, (_, a, c), r)). (us, then-closed (Grammar.branch b a) c, r))
     & tt
@@ -165,13 +161,13 @@ alphabet-keeps : {p : ℕ} {ts us vs ws xs : Ts} {l : List Letter}
     → IsAlphabet ((w "alphabet" at p) ∷ ts) l xs
 alphabet-keeps is is l is = Grammar.alphabet (l .1)
 
-decrement-keeps : {p : ℕ} {ts us vs : Ts} {d : Bool} → Is (s "=") ts us → Means Machine.truth us d vs → IsDecrement ((w "decr_on_zero" at p) ∷ ts) d vs
+decrement-keeps : {p : ℕ} {ts us vs : Ts} {d : Bool} {r : ℕ} → Is (s "=") ts us → Means Machine.truth us (d, r) vs → IsDecrement ((w "decr_on_zero" at p) ∷ ts) d r vs
 decrement-keeps is d = d _ _
 
-true-keeps : {ts us : Ts} → Is (s ";") ts us → (r p q : ℕ) → IsDecrement ((w "decr_on_zero" at p) ∷ (s "=" at q) ∷ (w "true" at r) ∷ ts) true us
+true-keeps : {ts us : Ts} → Is (s ";") ts us → (r p q : ℕ) → IsDecrement ((w "decr_on_zero" at p) ∷ (s "=" at q) ∷ (w "true" at r) ∷ ts) true r us
 true-keeps is r p q = Grammar.isTrue
 
-false-keeps : {ts us : Ts} → Is (s ";") ts us → (r p q : ℕ) → IsDecrement ((w "decr_on_zero" at p) ∷ (s "=" at q) ∷ (w "false" at r) ∷ ts) false us
+false-keeps : {ts us : Ts} → Is (s ";") ts us → (r p q : ℕ) → IsDecrement ((w "decr_on_zero" at p) ∷ (s "=" at q) ∷ (w "false" at r) ∷ ts) false r us
 false-keeps is r p q = Grammar.isFalse
 
 body-keeps : {p o : ℕ} {ts us vs ws xs : Ts} {b : Statements}
@@ -239,12 +235,12 @@ choices-keep t p Machine.body = (λ st ts vs (_, i, (_, j, (_, k, (us, b, r)))).
 choices-keep t p (Machine.block d) = (λ st ts vs (us, b, r). (us, Grammar.block (b .1), r)) & tt
 choices-keep t p (Machine.statements d) = statements-keep t p d
 choices-keep t p (Machine.orElse d) =
-    (λ st ts vs (_, b′, (us, a, r)). (us, (λ q z y o u v c b cd bd. then-closed (Grammar.ifElse cd bd b′) a), r))
+    (λ st ts vs (_, b, (us, a, r)). (us, (_, Grammar.else b, a), r))
     & all-keep
     _
     Closed
     (Means (Machine.orElse d))
-    (λ ts a us h q z y o u v c b cd bd. then-closed (Grammar.if cd bd) h)
+    (λ ts a us h. (ts, Grammar.nothing, h))
     p
     (statementChoices t p d)
     (statements-keep t p d)
@@ -371,11 +367,11 @@ eat-means ((u at p) ∷ ts) (x ∷ st) a k h =
         let (vs, r) = rest (z .push ++ st) _ _ h in
         (z .makes st vs, m st ts vs r)
 
-program-of : {ts us vs : Ts} {l : List Letter} {d : Bool} {o : ℕ} {b : Statements}
-    → IsSettings ts l d us
+program-of : {ts us vs : Ts} {f : Order} {l : List Letter} {d : Bool} {r o : ℕ} {b : Statements}
+    → IsSettings ts f l d r us
     → IsBody us o b vs
     → Over vs
-    → IsProgram ts (record { alphabet = l; stops = d; brace = o; body = b })
+    → IsProgram ts (record { first = f; alphabet = l; stops = d; truth = r; brace = o; body = b })
 program-of h (body b) over = Grammar.program h b
 
 -- what the machine takes to its end is a program

@@ -8,17 +8,19 @@ use mathlib.Core.List.{List, [], _∷_, _++_, append-nil, append-assoc}
 use lib.ListN.{length}
 use lib.Dec.{leb}
 use Rattle.rule.specs.Tree as Tree
-use Rattle.rule.specs.Tree.{Number, Letter, Sought, Atom, Condition, Plain, Statement, Statements, Arms, Program, done, _then_, letterBytes}
-use Rattle.rule.specs.Limits.{Fault, faultIf, tooDeep, isIn, letterFaults, numberFaults, soughtFaults, atomFaults, conditionFaults, plainFaults, statementFaults, statementsFaults, armsFaults, faults}
+use Rattle.rule.specs.Tree.{Number, Letter, Sought, Atom, Condition, Plain, Statement, Rest, Statements, Arms, Order, Program, done, _then_, letterBytes}
+use Rattle.rule.specs.Limits.{Fault, faultIf, tooDeep, isIn, letterFaults, numberFaults, soughtFaults, atomFaults, conditionFaults, plainFaults, statementFaults, restFaults, statementsFaults, armsFaults, truthFaults, inOrder, settingsFaults, faults}
 use Rattle.rule.specs.Counts.{
   conditionStates,
   statementStates,
+  restStates,
   statementsStates,
   armsStates,
   programStates,
   atomCount,
   conditionRows,
   statementRows,
+  restRows,
   statementsRows,
   armsRows,
   programRows,
@@ -34,9 +36,12 @@ use Rattle.rule.proofs.Far.{
   conditionFar,
   plainFar,
   statementFar,
+  restFar,
   statementsFar,
   armsFar,
   lettersFar,
+  truthFar,
+  settingsFar,
   programFar,
 }
 
@@ -90,7 +95,7 @@ condition-is : (c : Condition) (n : ℕ) (s : Far)
     → conditionFar n c s
     ≡ plus s (conditionStates c) (conditionRows (length (s .totals .alphabet)) c) (conditionFaults (s .totals .alphabet) n c)
 unfolding conditionFar conditionStates conditionRows conditionFaults
-condition-is (Tree.atom a) n s = atom-is a s
+condition-is (Tree.atom p a) n s = atom-is a s
 condition-is (Tree.parens p c) n s = condition-is c (suc n) _ ∙ same-far refl refl (noted-then (leb 16 n) 8 p (s .seen) _)
 condition-is (Tree.negation p c) n s = condition-is c (suc n) _ ∙ same-far refl refl (noted-then (leb 16 n) 8 p (s .seen) _)
 condition-is (Tree.both c d) n s =
@@ -136,32 +141,30 @@ mutual
   statement-is : (x : Statement) (d : ℕ) (s : Far)
       → statementFar d x s
       ≡ plus s (statementStates x) (statementRows (length (s .totals .alphabet)) x) (statementFaults (s .totals .alphabet) d x)
-  statement-is (Tree.plain e) d s = plain-is e _ ∙ same-far (omega arith) (omega arith) refl
-  statement-is Tree.accept d s = same-far refl refl (sym (append-nil (s .seen)))
-  statement-is Tree.reject d s = same-far refl refl (sym (append-nil (s .seen)))
-  statement-is (Tree.if c o b) d s =
-      ap (λ (z : Far). statementsFar (suc d) b (notes (leb 16 d) 8 o z)) (condition-is c 0 (counts 3 2 s))
-      ∙ block-is b (λ e t. statements-is b e t) d o _
+  statement-is (Tree.plain p e) d s = plain-is e _ ∙ same-far (omega arith) (omega arith) refl
+  statement-is (Tree.accept p) d s = same-far refl refl (sym (append-nil (s .seen)))
+  statement-is (Tree.reject p) d s = same-far refl refl (sym (append-nil (s .seen)))
+  statement-is (Tree.if p c o b e) d s =
+      ap (λ (z : Far). restFar d e (statementsFar (suc d) b (notes (leb 16 d) 8 o z))) (condition-is c 0 (counts 3 2 s))
+      ∙ ap (λ (z : Far). restFar d e z) (block-is b (λ e t. statements-is b e t) d o _)
+      ∙ rest-is e d _
       ∙ same-far (omega arith) (omega arith) (simp append-assoc)
-  statement-is (Tree.ifElse c o b o′ b′) d s =
-      ap
-      (λ (z : Far). statementsFar (suc d) b′ (notes (leb 16 d) 8 o′ (statementsFar (suc d) b (notes (leb 16 d) 8 o z))))
-      (condition-is c 0 (counts 3 2 s))
-      ∙ ap
-      (λ (z : Far). statementsFar (suc d) b′ (notes (leb 16 d) 8 o′ z))
-      (block-is b (λ e t. statements-is b e t) d o _)
-      ∙ block-is b′ (λ e t. statements-is b′ e t) d o′ _
-      ∙ same-far (omega arith) (omega arith) (simp append-assoc)
-  statement-is (Tree.while c o b) d s =
+  statement-is (Tree.while p c o b) d s =
       ap (λ (z : Far). statementsFar (suc d) b (notes (leb 16 d) 8 o z)) (condition-is c 0 (counts 2 1 s))
       ∙ block-is b (λ e t. statements-is b e t) d o _
       ∙ same-far (omega arith) (omega arith) (simp append-assoc)
-  statement-is (Tree.choose o b) d s =
+  statement-is (Tree.choose p o b) d s =
       block-is b (λ e t. statements-is b e t) d o _ ∙ same-far (omega arith) (omega arith) refl
-  statement-is (Tree.branch o b a) d s =
+  statement-is (Tree.branch p o b a) d s =
       ap (λ (z : Far). armsFar d 1 a z) (block-is b (λ e t. statements-is b e t) d o (counts 2 2 s))
       ∙ arms-is a d 1 _
       ∙ same-far (omega arith) (omega arith) (simp append-assoc)
+
+  rest-is : (x : Rest) (d : ℕ) (s : Far)
+      → restFar d x s
+      ≡ plus s (restStates x) (restRows (length (s .totals .alphabet)) x) (restFaults (s .totals .alphabet) d x)
+  rest-is Tree.nothing d s = nothing-is s
+  rest-is (Tree.else o b) d s = block-is b (λ e t. statements-is b e t) d o s
 
   statements-is : (b : Statements) → StatementsIs b
   statements-is done d s = nothing-is s
@@ -203,6 +206,26 @@ letters-is (x ∷ l) s =
     (append-assoc (s .totals .alphabet) (x .byte ∷ []) (letterBytes l))
     (noted-then (excess (x .byte) (s .totals .alphabet)) 5 (x .place) (s .seen) _)
 
+truth-is : (d : Bool) (p : ℕ) (s : Far) → truthFar d p s ≡ record { totals = s .totals; seen = s .seen ++ truthFaults d p }
+unfolding truthFar truthFaults
+truth-is d p s = same-letters refl (sym (append-nil (s .seen)))
+
+settings-is : (o : Order) (l : List Letter) (d : Bool) (p : ℕ) (s : Far)
+    → settingsFar o l d p s
+    ≡ record {
+      totals = record { alphabet = s .totals .alphabet ++ letterBytes l; states = s .totals .states; rows = s .totals .rows };
+      seen = s .seen ++ inOrder o (letterFaults (s .totals .alphabet) l) (truthFaults d p);
+    }
+unfolding settingsFar inOrder
+settings-is Tree.alphabetFirst l d p s =
+    truth-is d p (lettersFar l s)
+    ∙ ap (λ (z : Far). record { totals = z .totals; seen = z .seen ++ truthFaults d p }) (letters-is l s)
+    ∙ same-letters refl (append-assoc (s .seen) (letterFaults (s .totals .alphabet) l) (truthFaults d p))
+settings-is Tree.decrementFirst l d p s =
+    ap (lettersFar l) (truth-is d p s)
+    ∙ letters-is l _
+    ∙ same-letters refl (append-assoc (s .seen) (truthFaults d p) (letterFaults (s .totals .alphabet) l))
+
 length-letters : (l : List Letter) → length (letterBytes l) ≡ length l
 unfolding letterBytes
 length-letters [] = refl
@@ -215,9 +238,11 @@ pub program-is : (x : Program)
       totals = record { alphabet = letterBytes (x .alphabet); states = programStates x; rows = programRows x };
       seen = faults x;
     }
-unfolding programFar programStates programRows faults
+unfolding programFar programStates programRows faults settingsFaults
 program-is x =
-    ap (λ (z : Far). statementsFar 1 (x .body) (notes (leb 16 0) 8 (x .brace) z)) (letters-is (x .alphabet) _)
+    ap
+    (λ (z : Far). statementsFar 1 (x .body) (notes (leb 16 0) 8 (x .brace) z))
+    (settings-is (x .first) (x .alphabet) (x .stops) (x .truth) _)
     ∙ block-is (x .body) (statements-is (x .body)) 0 (x .brace) _
     ∙ same-far
     refl

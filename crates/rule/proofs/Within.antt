@@ -57,16 +57,21 @@ use Rattle.rule.specs.Tree.{
   accept,
   reject,
   if,
-  ifElse,
   while,
   choose,
   branch,
+  Rest,
+  nothing,
+  else,
   Statements,
   done,
   _then_,
   Arms,
   lastArm,
   moreArms,
+  Order,
+  alphabetFirst,
+  decrementFirst,
   Program,
   letterBytes,
 }
@@ -84,8 +89,11 @@ use Rattle.rule.specs.Limits.{
   conditionFaults,
   plainFaults,
   statementFaults,
+  restFaults,
   statementsFaults,
   armsFaults,
+  inOrder,
+  settingsFaults,
   faults,
 }
 
@@ -151,7 +159,7 @@ AtomWithin alphabet (counterIsNot n) = (value n ≡ 0) × (inForm (n .digits) �
 
 -- so in every atom of a condition
 unfoldable pub ConditionWithin : List ℕ → Condition → Type 0
-ConditionWithin alphabet (atom a) = AtomWithin alphabet a
+ConditionWithin alphabet (atom p a) = AtomWithin alphabet a
 ConditionWithin alphabet (parens p c) = ConditionWithin alphabet c
 ConditionWithin alphabet (negation p c) = ConditionWithin alphabet c
 ConditionWithin alphabet (both c d) = ConditionWithin alphabet c × ConditionWithin alphabet d
@@ -171,15 +179,17 @@ PlainWithin (subtract n) = value n ≤ 31
 -- so in every part of a statement, of a block's statements and of arms
 unfoldable mutual
   pub StatementWithin : List ℕ → Statement → Type 0
-  StatementWithin alphabet (plain e) = PlainWithin e
-  StatementWithin alphabet accept = Unit
-  StatementWithin alphabet reject = Unit
-  StatementWithin alphabet (if c o b) = ConditionWithin alphabet c × StatementsWithin alphabet b
-  StatementWithin alphabet (ifElse c o b o′ b′) =
-      ConditionWithin alphabet c × StatementsWithin alphabet b × StatementsWithin alphabet b′
-  StatementWithin alphabet (while c o b) = ConditionWithin alphabet c × StatementsWithin alphabet b
-  StatementWithin alphabet (choose o b) = StatementsWithin alphabet b
-  StatementWithin alphabet (branch o b a) = StatementsWithin alphabet b × ArmsWithin alphabet a
+  StatementWithin alphabet (plain p e) = PlainWithin e
+  StatementWithin alphabet (accept p) = Unit
+  StatementWithin alphabet (reject p) = Unit
+  StatementWithin alphabet (if p c o b e) = ConditionWithin alphabet c × StatementsWithin alphabet b × RestWithin alphabet e
+  StatementWithin alphabet (while p c o b) = ConditionWithin alphabet c × StatementsWithin alphabet b
+  StatementWithin alphabet (choose p o b) = StatementsWithin alphabet b
+  StatementWithin alphabet (branch p o b a) = StatementsWithin alphabet b × ArmsWithin alphabet a
+
+  pub RestWithin : List ℕ → Rest → Type 0
+  RestWithin alphabet nothing = Unit
+  RestWithin alphabet (else o b) = StatementsWithin alphabet b
 
   pub StatementsWithin : List ℕ → Statements → Type 0
   StatementsWithin alphabet done = Unit
@@ -221,7 +231,7 @@ atom-within alphabet (counterIsNot n) e = (omega (arith, number-within 0 n e), n
 condition-within :
     (alphabet : List ℕ) (opened : ℕ) (c : Condition) → conditionFaults alphabet opened c ≡ [] → ConditionWithin alphabet c
 unfolding conditionFaults ConditionWithin
-condition-within alphabet opened (atom a) e = atom-within alphabet a e
+condition-within alphabet opened (atom p a) e = atom-within alphabet a e
 condition-within alphabet opened (parens p c) e =
     condition-within alphabet (suc opened) c (nil-right (tooDeep opened p) _ e)
 condition-within alphabet opened (negation p c) e =
@@ -253,39 +263,38 @@ block-rest : (opened o : ℕ) (fs : List Fault) → tooDeep opened o ++ fs ≡ [
 block-rest opened o fs e = nil-right (tooDeep opened o) fs e
 
 mutual
-  unfolding statementFaults statementsFaults armsFaults StatementWithin StatementsWithin ArmsWithin
+  unfolding statementFaults restFaults statementsFaults armsFaults StatementWithin RestWithin StatementsWithin ArmsWithin
 
   statement-within :
       (s : Statement) (alphabet : List ℕ) (opened : ℕ) → statementFaults alphabet opened s ≡ [] → StatementWithin alphabet s
-  statement-within (plain e) alphabet opened none = plain-within e none
-  statement-within accept alphabet opened none = tt
-  statement-within reject alphabet opened none = tt
-  statement-within (if c o b) alphabet opened none =
-      let tests = conditionFaults alphabet 0 c in (
-        condition-within alphabet 0 c (nil-left tests _ none),
-        statements-within b alphabet (suc opened) (block-rest opened o _ (nil-right tests _ none)),
-      )
-  statement-within (ifElse c o b o′ b′) alphabet opened none =
+  statement-within (plain p e) alphabet opened none = plain-within e none
+  statement-within (accept p) alphabet opened none = tt
+  statement-within (reject p) alphabet opened none = tt
+  statement-within (if p c o b e) alphabet opened none =
       let tests = conditionFaults alphabet 0 c in
       let first = statementsFaults alphabet (suc opened) b in
       let blocks = block-rest opened o _ (nil-right tests _ none) in (
         condition-within alphabet 0 c (nil-left tests _ none),
         statements-within b alphabet (suc opened) (nil-left first _ blocks),
-        statements-within b′ alphabet (suc opened) (block-rest opened o′ _ (nil-right first _ blocks)),
+        rest-within e alphabet opened (nil-right first _ blocks),
       )
-  statement-within (while c o b) alphabet opened none =
+  statement-within (while p c o b) alphabet opened none =
       let tests = conditionFaults alphabet 0 c in (
         condition-within alphabet 0 c (nil-left tests _ none),
         statements-within b alphabet (suc opened) (block-rest opened o _ (nil-right tests _ none)),
       )
-  statement-within (choose o b) alphabet opened none =
+  statement-within (choose p o b) alphabet opened none =
       statements-within b alphabet (suc opened) (block-rest opened o _ none)
-  statement-within (branch o b a) alphabet opened none =
+  statement-within (branch p o b a) alphabet opened none =
       let first = statementsFaults alphabet (suc opened) b in
       let blocks = block-rest opened o _ none in (
         statements-within b alphabet (suc opened) (nil-left first _ blocks),
         arms-within a alphabet opened 1 (nil-right first _ blocks),
       )
+
+  rest-within : (e : Rest) (alphabet : List ℕ) (opened : ℕ) → restFaults alphabet opened e ≡ [] → RestWithin alphabet e
+  rest-within nothing alphabet opened none = tt
+  rest-within (else o b) alphabet opened none = statements-within b alphabet (suc opened) (block-rest opened o _ none)
 
   statements-within :
       (b : Statements) (alphabet : List ℕ) (opened : ℕ)
@@ -353,19 +362,30 @@ letters-different (l ∷ ls) before none h =
     let k = letter-kept before l ls none in
     rw append-snoc at (letters-different ls (before ++ (l .byte ∷ [])) (k .2) (rw concat-eq-append at (new-behind (k .0) h)))
 
+-- in either order
+nil-letters : (o : Order) (letters truth : List Fault) → inOrder o letters truth ≡ [] → letters ≡ []
+unfolding inOrder
+nil-letters alphabetFirst letters truth e = nil-left letters truth e
+nil-letters decrementFirst letters truth e = nil-right truth letters e
+
+no-letters : (p : Program) → settingsFaults p ≡ [] → letterFaults [] (p .alphabet) ≡ []
+unfolding settingsFaults
+no-letters p none = nil-letters (p .first) (letterFaults [] (p .alphabet)) _ none
+
 -- a program without faults, by its parts
 pub program-within : (p : Program) → faults p ≡ [] → ProgramWithin p
 unfolding faults
 program-within p none =
     let alphabet = letterBytes (p .alphabet) in
-    let letters = letterFaults [] (p .alphabet) in
+    let settings = settingsFaults p in
+    let letters = no-letters p (nil-left settings _ none) in
     record {
       few =
           omega (
             arith,
-            letters-few (p .alphabet) [] (nil-left letters _ none) (omega arith),
+            letters-few (p .alphabet) [] letters (omega arith),
             length-letterBytes (p .alphabet),
           );
-      different = letters-different (p .alphabet) [] (nil-left letters _ none) nodup-nil;
-      body = statements-within (p .body) alphabet 1 (block-rest 0 (p .brace) _ (nil-right letters _ none));
+      different = letters-different (p .alphabet) [] letters nodup-nil;
+      body = statements-within (p .body) alphabet 1 (block-rest 0 (p .brace) _ (nil-right settings _ none));
     }

@@ -18,10 +18,12 @@ use Rattle.rule.specs.Tree.{
   accept,
   reject,
   if,
-  ifElse,
   while,
   choose,
   branch,
+  Rest,
+  nothing,
+  else,
   Statements,
   done,
   _then_,
@@ -33,7 +35,7 @@ use Rattle.rule.specs.Tree.{
 
 -- 1 for each `&&` or `||`
 unfoldable pub conditionStates : Condition → ℕ
-conditionStates (atom a) = 0
+conditionStates (atom p a) = 0
 conditionStates (parens o c) = conditionStates c
 conditionStates (negation o c) = conditionStates c
 conditionStates (both c d) = 1 + (conditionStates c + conditionStates d)
@@ -42,14 +44,17 @@ conditionStates (either c d) = 1 + (conditionStates c + conditionStates d)
 -- 1 for each plain statement, accept and reject, 3 for an if, 2 for each loop, 1 + arms for a branch
 unfoldable mutual
   pub statementStates : Statement → ℕ
-  statementStates (plain e) = 1
-  statementStates accept = 1
-  statementStates reject = 1
-  statementStates (if c o b) = 3 + (conditionStates c + statementsStates b)
-  statementStates (ifElse c o b o′ b′) = 3 + (conditionStates c + (statementsStates b + statementsStates b′))
-  statementStates (while c o b) = 2 + (conditionStates c + statementsStates b)
-  statementStates (choose o b) = 2 + statementsStates b
-  statementStates (branch o b a) = 1 + (1 + (statementsStates b + armsStates a))
+  statementStates (plain p e) = 1
+  statementStates (accept p) = 1
+  statementStates (reject p) = 1
+  statementStates (if p c o b e) = 3 + (conditionStates c + (statementsStates b + restStates e))
+  statementStates (while p c o b) = 2 + (conditionStates c + statementsStates b)
+  statementStates (choose p o b) = 2 + statementsStates b
+  statementStates (branch p o b a) = 1 + (1 + (statementsStates b + armsStates a))
+
+  pub restStates : Rest → ℕ
+  restStates nothing = 0
+  restStates (else o b) = statementsStates b
 
   pub statementsStates : Statements → ℕ
   statementsStates done = 0
@@ -70,7 +75,7 @@ atomCount k (counterIs n) = 2
 atomCount k (counterIsNot n) = 2
 
 unfoldable pub conditionRows : ℕ → Condition → ℕ
-conditionRows k (atom a) = atomCount k a
+conditionRows k (atom p a) = atomCount k a
 conditionRows k (parens o c) = conditionRows k c
 conditionRows k (negation o c) = conditionRows k c
 conditionRows k (both c d) = conditionRows k c + conditionRows k d
@@ -79,14 +84,17 @@ conditionRows k (either c d) = conditionRows k c + conditionRows k d
 -- 1 for each plain statement, 2 for an if, 1 for a while, 3 for a choose, 2 for each arm
 unfoldable mutual
   pub statementRows : ℕ → Statement → ℕ
-  statementRows k (plain e) = 1
-  statementRows k accept = 0
-  statementRows k reject = 0
-  statementRows k (if c o b) = 2 + (conditionRows k c + statementsRows k b)
-  statementRows k (ifElse c o b o′ b′) = 2 + (conditionRows k c + (statementsRows k b + statementsRows k b′))
-  statementRows k (while c o b) = 1 + (conditionRows k c + statementsRows k b)
-  statementRows k (choose o b) = 3 + statementsRows k b
-  statementRows k (branch o b a) = 2 + (statementsRows k b + armsRows k a)
+  statementRows k (plain p e) = 1
+  statementRows k (accept p) = 0
+  statementRows k (reject p) = 0
+  statementRows k (if p c o b e) = 2 + (conditionRows k c + (statementsRows k b + restRows k e))
+  statementRows k (while p c o b) = 1 + (conditionRows k c + statementsRows k b)
+  statementRows k (choose p o b) = 3 + statementsRows k b
+  statementRows k (branch p o b a) = 2 + (statementsRows k b + armsRows k a)
+
+  pub restRows : ℕ → Rest → ℕ
+  restRows k nothing = 0
+  restRows k (else o b) = statementsRows k b
 
   pub statementsRows : ℕ → Statements → ℕ
   statementsRows k done = 0

@@ -5,7 +5,7 @@ use mathlib.Core.List.{List, [], _∷_}
 use Rattle.text.specs.Token.{Token, w, s}
 use Rattle.text.specs.Tokens.{Placed, _at_}
 use Rattle.rule.specs.Tree as Tree
-use Rattle.rule.specs.Tree.{Letter, Sought, Atom, Condition, Plain, Statement, Statements, Arms, Program, done, _then_}
+use Rattle.rule.specs.Tree.{Letter, Sought, Atom, Condition, Plain, Statement, Rest, Statements, Arms, Order, Program, done, _then_}
 
 abbrev pub Ts : Type 0
 Ts = List Placed
@@ -15,17 +15,18 @@ pub data IsSought : Ts → Sought → Ts → Type 0 where
   lend : {p : ℕ} {ts : Ts} → IsSought ((w "lend" at p) ∷ ts) Tree.lend ts
   rend : {p : ℕ} {ts : Ts} → IsSought ((w "rend" at p) ∷ ts) Tree.rend ts
 
-pub data IsAtom : Ts → Atom → Ts → Type 0 where
+-- an atom, with the place of its first word
+pub data IsAtom : Ts → ℕ → Atom → Ts → Type 0 where
   readIs : {p q : ℕ} {ts us : Ts} {x : Sought}
       → IsSought ts x us
-      → IsAtom ((w "read" at p) ∷ (s "==" at q) ∷ ts) (Tree.readIs x) us
+      → IsAtom ((w "read" at p) ∷ (s "==" at q) ∷ ts) p (Tree.readIs x) us
   readIsNot : {p q : ℕ} {ts us : Ts} {x : Sought}
       → IsSought ts x us
-      → IsAtom ((w "read" at p) ∷ (s "!=" at q) ∷ ts) (Tree.readIsNot x) us
+      → IsAtom ((w "read" at p) ∷ (s "!=" at q) ∷ ts) p (Tree.readIsNot x) us
   counterIs : {p q r : ℕ} {n : List ℕ} {ts : Ts}
-      → IsAtom ((w "c" at p) ∷ (s "==" at q) ∷ (Token.number n at r) ∷ ts) (Tree.counterIs (record { digits = n; place = r })) ts
+      → IsAtom ((w "c" at p) ∷ (s "==" at q) ∷ (Token.number n at r) ∷ ts) p (Tree.counterIs (record { digits = n; place = r })) ts
   counterIsNot : {p q r : ℕ} {n : List ℕ} {ts : Ts}
-      → IsAtom ((w "c" at p) ∷ (s "!=" at q) ∷ (Token.number n at r) ∷ ts) (Tree.counterIsNot (record { digits = n; place = r })) ts
+      → IsAtom ((w "c" at p) ∷ (s "!=" at q) ∷ (Token.number n at r) ∷ ts) p (Tree.counterIsNot (record { digits = n; place = r })) ts
 
 -- how tightly a condition binds: `||` loosest, then `&&`, then `!`
 pub data Binding : Type 0 where
@@ -34,7 +35,7 @@ pub data Binding : Type 0 where
   tightest : Binding
 
 pub data IsCondition : Binding → Ts → Condition → Ts → Type 0 where
-  atom : {ts us : Ts} {a : Atom} → IsAtom ts a us → IsCondition tightest ts (Tree.atom a) us
+  atom : {p : ℕ} {ts us : Ts} {a : Atom} → IsAtom ts p a us → IsCondition tightest ts (Tree.atom p a) us
   parens : {p q : ℕ} {ts us : Ts} {c : Condition}
       → IsCondition loosest ts c ((s ")" at q) ∷ us)
       → IsCondition tightest ((s "(" at p) ∷ ts) (Tree.parens p c) us
@@ -52,59 +53,67 @@ pub data IsCondition : Binding → Ts → Condition → Ts → Type 0 where
       → IsCondition loosest us d vs
       → IsCondition loosest ts (Tree.either c d) vs
 
-pub data IsPlain : Ts → Plain → Ts → Type 0 where
+-- a plain statement, with the place of its first word
+pub data IsPlain : Ts → ℕ → Plain → Ts → Type 0 where
   moveBy : {p q r u v : ℕ} {n : List ℕ} {ts : Ts}
       → IsPlain
       ((w "move" at p) ∷ (s "(" at q) ∷ (Token.number n at r) ∷ (s ")" at u) ∷ (s ";" at v) ∷ ts)
+      p
       (Tree.moveBy (record { digits = n; place = r }))
       ts
   moveBack : {p q o r u v : ℕ} {n : List ℕ} {ts : Ts}
       → IsPlain
       ((w "move" at p) ∷ (s "(" at q) ∷ (s "-" at o) ∷ (Token.number n at r) ∷ (s ")" at u) ∷ (s ";" at v) ∷ ts)
+      p
       (Tree.moveBack (record { digits = n; place = r }))
       ts
   gotoLend : {p q r u v : ℕ} {ts : Ts}
-      → IsPlain ((w "goto" at p) ∷ (s "(" at q) ∷ (w "lend" at r) ∷ (s ")" at u) ∷ (s ";" at v) ∷ ts) Tree.gotoLend ts
+      → IsPlain ((w "goto" at p) ∷ (s "(" at q) ∷ (w "lend" at r) ∷ (s ")" at u) ∷ (s ";" at v) ∷ ts) p Tree.gotoLend ts
   gotoRend : {p q r u v : ℕ} {ts : Ts}
-      → IsPlain ((w "goto" at p) ∷ (s "(" at q) ∷ (w "rend" at r) ∷ (s ")" at u) ∷ (s ";" at v) ∷ ts) Tree.gotoRend ts
-  increment : {p q v : ℕ} {ts : Ts} → IsPlain ((w "c" at p) ∷ (s "++" at q) ∷ (s ";" at v) ∷ ts) Tree.increment ts
-  decrement : {p q v : ℕ} {ts : Ts} → IsPlain ((w "c" at p) ∷ (s "--" at q) ∷ (s ";" at v) ∷ ts) Tree.decrement ts
+      → IsPlain ((w "goto" at p) ∷ (s "(" at q) ∷ (w "rend" at r) ∷ (s ")" at u) ∷ (s ";" at v) ∷ ts) p Tree.gotoRend ts
+  increment : {p q v : ℕ} {ts : Ts} → IsPlain ((w "c" at p) ∷ (s "++" at q) ∷ (s ";" at v) ∷ ts) p Tree.increment ts
+  decrement : {p q v : ℕ} {ts : Ts} → IsPlain ((w "c" at p) ∷ (s "--" at q) ∷ (s ";" at v) ∷ ts) p Tree.decrement ts
   add : {p q r v : ℕ} {n : List ℕ} {ts : Ts}
       → IsPlain
       ((w "c" at p) ∷ (s "+=" at q) ∷ (Token.number n at r) ∷ (s ";" at v) ∷ ts)
+      p
       (Tree.add (record { digits = n; place = r }))
       ts
   subtract : {p q r v : ℕ} {n : List ℕ} {ts : Ts}
       → IsPlain
       ((w "c" at p) ∷ (s "-=" at q) ∷ (Token.number n at r) ∷ (s ";" at v) ∷ ts)
+      p
       (Tree.subtract (record { digits = n; place = r }))
       ts
 
 mutual
   pub data IsStatement : Ts → Statement → Ts → Type 0 where
-    plain : {ts us : Ts} {e : Plain} → IsPlain ts e us → IsStatement ts (Tree.plain e) us
-    accept : {p v : ℕ} {ts : Ts} → IsStatement ((w "accept" at p) ∷ (s ";" at v) ∷ ts) Tree.accept ts
-    reject : {p v : ℕ} {ts : Ts} → IsStatement ((w "reject" at p) ∷ (s ";" at v) ∷ ts) Tree.reject ts
-    if : {p q r o : ℕ} {ts us vs : Ts} {c : Condition} {b : Statements}
+    plain : {p : ℕ} {ts us : Ts} {e : Plain} → IsPlain ts p e us → IsStatement ts (Tree.plain p e) us
+    accept : {p v : ℕ} {ts : Ts} → IsStatement ((w "accept" at p) ∷ (s ";" at v) ∷ ts) (Tree.accept p) ts
+    reject : {p v : ℕ} {ts : Ts} → IsStatement ((w "reject" at p) ∷ (s ";" at v) ∷ ts) (Tree.reject p) ts
+    if : {p q r o : ℕ} {ts us vs xs : Ts} {c : Condition} {b : Statements} {e : Rest}
         → IsCondition loosest ts c ((s ")" at r) ∷ us)
         → IsBlock us o b vs
-        → IsStatement ((w "if" at p) ∷ (s "(" at q) ∷ ts) (Tree.if c o b) vs
-    ifElse : {p q r t o o′ : ℕ} {ts us vs xs : Ts} {c : Condition} {b b′ : Statements}
-        → IsCondition loosest ts c ((s ")" at r) ∷ us)
-        → IsBlock us o b ((w "else" at t) ∷ vs)
-        → IsBlock vs o′ b′ xs
-        → IsStatement ((w "if" at p) ∷ (s "(" at q) ∷ ts) (Tree.ifElse c o b o′ b′) xs
+        → IsRest vs e xs
+        → IsStatement ((w "if" at p) ∷ (s "(" at q) ∷ ts) (Tree.if p c o b e) xs
     while : {p q r o : ℕ} {ts us vs : Ts} {c : Condition} {b : Statements}
         → IsCondition loosest ts c ((s ")" at r) ∷ us)
         → IsBlock us o b vs
-        → IsStatement ((w "while" at p) ∷ (s "(" at q) ∷ ts) (Tree.while c o b) vs
+        → IsStatement ((w "while" at p) ∷ (s "(" at q) ∷ ts) (Tree.while p c o b) vs
     choose : {p q o : ℕ} {ts us : Ts} {b : Statements}
         → IsBlock ts o b us
-        → IsStatement ((w "while" at p) ∷ (w "choose" at q) ∷ ts) (Tree.choose o b) us
+        → IsStatement ((w "while" at p) ∷ (w "choose" at q) ∷ ts) (Tree.choose p o b) us
     branch : {p o : ℕ} {ts us vs : Ts} {b : Statements} {a : Arms}
         → IsBlock ts o b us
         → IsArms us a vs
-        → IsStatement ((w "branch" at p) ∷ ts) (Tree.branch o b a) vs
+        → IsStatement ((w "branch" at p) ∷ ts) (Tree.branch p o b a) vs
+
+  -- an `else` is optional
+  pub data IsRest : Ts → Rest → Ts → Type 0 where
+    nothing : {ts : Ts} → IsRest ts Tree.nothing ts
+    else : {t o : ℕ} {ts us : Ts} {b : Statements}
+        → IsBlock ts o b us
+        → IsRest ((w "else" at t) ∷ ts) (Tree.else o b) us
 
   pub data IsArms : Ts → Arms → Ts → Type 0 where
     lastArm : {p o : ℕ} {ts us : Ts} {b : Statements}
@@ -138,26 +147,27 @@ pub data IsAlphabet : Ts → List Letter → Ts → Type 0 where
       → IsLetters ts l ((s "]" at u) ∷ (s ";" at v) ∷ us)
       → IsAlphabet ((w "alphabet" at p) ∷ (s "=" at q) ∷ (s "[" at r) ∷ ts) l us
 
-pub data IsDecrement : Ts → Bool → Ts → Type 0 where
+-- true or false, with the place of that word
+pub data IsDecrement : Ts → Bool → ℕ → Ts → Type 0 where
   isTrue : {p q r v : ℕ} {ts : Ts}
-      → IsDecrement ((w "decr_on_zero" at p) ∷ (s "=" at q) ∷ (w "true" at r) ∷ (s ";" at v) ∷ ts) true ts
+      → IsDecrement ((w "decr_on_zero" at p) ∷ (s "=" at q) ∷ (w "true" at r) ∷ (s ";" at v) ∷ ts) true r ts
   isFalse : {p q r v : ℕ} {ts : Ts}
-      → IsDecrement ((w "decr_on_zero" at p) ∷ (s "=" at q) ∷ (w "false" at r) ∷ (s ";" at v) ∷ ts) false ts
+      → IsDecrement ((w "decr_on_zero" at p) ∷ (s "=" at q) ∷ (w "false" at r) ∷ (s ";" at v) ∷ ts) false r ts
 
 -- the two settings, each once, in either order
-pub data IsSettings : Ts → List Letter → Bool → Ts → Type 0 where
-  alphabetFirst : {ts us vs : Ts} {l : List Letter} {d : Bool}
+pub data IsSettings : Ts → Order → List Letter → Bool → ℕ → Ts → Type 0 where
+  alphabetFirst : {p : ℕ} {ts us vs : Ts} {l : List Letter} {d : Bool}
       → IsAlphabet ts l us
-      → IsDecrement us d vs
-      → IsSettings ts l d vs
-  decrementFirst : {ts us vs : Ts} {l : List Letter} {d : Bool}
-      → IsDecrement ts d us
+      → IsDecrement us d p vs
+      → IsSettings ts Tree.alphabetFirst l d p vs
+  decrementFirst : {p : ℕ} {ts us vs : Ts} {l : List Letter} {d : Bool}
+      → IsDecrement ts d p us
       → IsAlphabet us l vs
-      → IsSettings ts l d vs
+      → IsSettings ts Tree.decrementFirst l d p vs
 
 -- the tokens, all of them, are this program
 pub data IsProgram : Ts → Program → Type 0 where
-  program : {p q r t o : ℕ} {ts us : Ts} {l : List Letter} {d : Bool} {b : Statements}
-      → IsSettings ts l d ((w "twoc" at p) ∷ (s "(" at q) ∷ (w "string" at r) ∷ (s ")" at t) ∷ us)
+  program : {p q r t o v : ℕ} {ts us : Ts} {f : Order} {l : List Letter} {d : Bool} {b : Statements}
+      → IsSettings ts f l d v ((w "twoc" at p) ∷ (s "(" at q) ∷ (w "string" at r) ∷ (s ")" at t) ∷ us)
       → IsBlock us o b []
-      → IsProgram ts (record { alphabet = l; stops = d; brace = o; body = b })
+      → IsProgram ts (record { first = f; alphabet = l; stops = d; truth = v; brace = o; body = b })

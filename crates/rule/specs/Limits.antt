@@ -36,16 +36,21 @@ use Rattle.rule.specs.Tree.{
   accept,
   reject,
   if,
-  ifElse,
   while,
   choose,
   branch,
+  Rest,
+  nothing,
+  else,
   Statements,
   done,
   _then_,
   Arms,
   lastArm,
   moreArms,
+  Order,
+  alphabetFirst,
+  decrementFirst,
   Program,
   letterBytes,
 }
@@ -109,7 +114,7 @@ abbrev pub tooDeep : ℕ → ℕ → List Fault
 tooDeep opened place = faultIf (leb 16 opened) 8 place
 
 unfoldable pub conditionFaults : List ℕ → ℕ → Condition → List Fault
-conditionFaults alphabet opened (atom a) = atomFaults alphabet a
+conditionFaults alphabet opened (atom p a) = atomFaults alphabet a
 conditionFaults alphabet opened (parens p c) = tooDeep opened p ++ conditionFaults alphabet (suc opened) c
 conditionFaults alphabet opened (negation p c) = tooDeep opened p ++ conditionFaults alphabet (suc opened) c
 conditionFaults alphabet opened (both c d) = conditionFaults alphabet opened c ++ conditionFaults alphabet opened d
@@ -128,21 +133,21 @@ plainFaults (subtract n) = numberFaults 31 n
 -- with so many blocks open around it; 9: an `also` behind eight arms
 unfoldable mutual
   pub statementFaults : List ℕ → ℕ → Statement → List Fault
-  statementFaults alphabet opened (plain e) = plainFaults e
-  statementFaults alphabet opened accept = []
-  statementFaults alphabet opened reject = []
-  statementFaults alphabet opened (if c o b) =
-      conditionFaults alphabet 0 c ++ (tooDeep opened o ++ statementsFaults alphabet (suc opened) b)
-  statementFaults alphabet opened (ifElse c o b o′ b′) =
+  statementFaults alphabet opened (plain p e) = plainFaults e
+  statementFaults alphabet opened (accept p) = []
+  statementFaults alphabet opened (reject p) = []
+  statementFaults alphabet opened (if p c o b e) =
       conditionFaults alphabet 0 c
-      ++ (tooDeep opened o
-      ++ (statementsFaults alphabet (suc opened) b
-      ++ (tooDeep opened o′ ++ statementsFaults alphabet (suc opened) b′)))
-  statementFaults alphabet opened (while c o b) =
+      ++ (tooDeep opened o ++ (statementsFaults alphabet (suc opened) b ++ restFaults alphabet opened e))
+  statementFaults alphabet opened (while p c o b) =
       conditionFaults alphabet 0 c ++ (tooDeep opened o ++ statementsFaults alphabet (suc opened) b)
-  statementFaults alphabet opened (choose o b) = tooDeep opened o ++ statementsFaults alphabet (suc opened) b
-  statementFaults alphabet opened (branch o b a) =
+  statementFaults alphabet opened (choose p o b) = tooDeep opened o ++ statementsFaults alphabet (suc opened) b
+  statementFaults alphabet opened (branch p o b a) =
       tooDeep opened o ++ (statementsFaults alphabet (suc opened) b ++ armsFaults alphabet opened 1 a)
+
+  pub restFaults : List ℕ → ℕ → Rest → List Fault
+  restFaults alphabet opened nothing = []
+  restFaults alphabet opened (else o b) = tooDeep opened o ++ statementsFaults alphabet (suc opened) b
 
   pub statementsFaults : List ℕ → ℕ → Statements → List Fault
   statementsFaults alphabet opened done = []
@@ -155,8 +160,20 @@ unfoldable mutual
       faultIf (leb 8 arms) 9 p
       ++ (tooDeep opened o ++ (statementsFaults alphabet (suc opened) b ++ armsFaults alphabet opened (suc arms) a))
 
+-- decr_on_zero breaks no limit, whichever its word is
+unfoldable pub truthFaults : Bool → ℕ → List Fault
+truthFaults stops place = []
+
+-- those of the alphabet and those of decr_on_zero, as the settings stand
+unfoldable pub inOrder : Order → List Fault → List Fault → List Fault
+inOrder alphabetFirst letters truth = letters ++ truth
+inOrder decrementFirst letters truth = truth ++ letters
+
+unfoldable pub settingsFaults : Program → List Fault
+settingsFaults p = inOrder (p .first) (letterFaults [] (p .alphabet)) (truthFaults (p .stops) (p .truth))
+
 -- the outermost block has none open around it
 unfoldable pub faults : Program → List Fault
 faults p =
-    letterFaults [] (p .alphabet)
+    settingsFaults p
     ++ (tooDeep 0 (p .brace) ++ statementsFaults (letterBytes (p .alphabet)) 1 (p .body))

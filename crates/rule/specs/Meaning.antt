@@ -7,7 +7,7 @@ use mathlib.Core.List.{List}
 use lib.Dec.{leb, eqb}
 use Rattle.cells.specs.Cell as Cell
 use Rattle.cells.specs.Cell.{Symbol, leftMark, rightMark, symbolOn, last}
-use Rattle.rule.specs.Tree.{Sought, letter, lend, rend, Atom, readIs, readIsNot, counterIs, counterIsNot, Condition, atom, parens, negation, both, either, Plain, moveBy, moveBack, gotoLend, gotoRend, increment, decrement, add, subtract, Statement, plain, accept, if, ifElse, while, choose, branch, Statements, done, _then_, Arms, lastArm, moreArms, Program}
+use Rattle.rule.specs.Tree.{Sought, letter, lend, rend, Atom, readIs, readIsNot, counterIs, counterIsNot, Condition, atom, parens, negation, both, either, Plain, moveBy, moveBack, gotoLend, gotoRend, increment, decrement, add, subtract, Statement, plain, accept, if, while, choose, branch, Rest, nothing, else, Statements, done, _then_, Arms, lastArm, moreArms, Program}
 use Rattle.rule.specs.Limits.{value}
 
 -- `read == x`: a mark differs from every letter, and from the other mark
@@ -29,7 +29,7 @@ atomHolds symbol counter (counterIs n) = eqb counter (value n)
 atomHolds symbol counter (counterIsNot n) = not (eqb counter (value n))
 
 unfoldable pub holds : Symbol → ℕ → Condition → Bool
-holds symbol counter (atom a) = atomHolds symbol counter a
+holds symbol counter (atom p a) = atomHolds symbol counter a
 holds symbol counter (parens p c) = holds symbol counter c
 holds symbol counter (negation p c) = not (holds symbol counter c)
 holds symbol counter (both c d) = holds symbol counter c && holds symbol counter d
@@ -66,6 +66,11 @@ unfoldable pub _before_ : Statements → Statements → Statements
 done before rest = rest
 (a then b) before rest = a then (b before rest)
 
+-- what an `if` whose condition fails goes on with
+unfoldable pub otherwise : Rest → Statements
+otherwise nothing = done
+otherwise (else o b) = b
+
 -- a block is one of the arms
 pub data Arm : Statements → Arms → Type 0 where
   lastOne : {p o : ℕ} {b : Statements} → Arm b (lastArm p o b)
@@ -80,35 +85,29 @@ pub record Standing : Type 0 where
 
 -- the statement in front, with what comes after it, may go on as these statements, with the cell and the counter as they were
 pub data Turns (symbol : Symbol) (counter : ℕ) : Statement → Statements → Statements → Type 0 where
-  ifHolds : {c : Condition} {o : ℕ} {b rest : Statements}
+  ifHolds : {p o : ℕ} {c : Condition} {b rest : Statements} {e : Rest}
       → holds symbol counter c ≡ true
-      → Turns symbol counter (if c o b) rest (b before rest)
-  ifFails : {c : Condition} {o : ℕ} {b rest : Statements}
+      → Turns symbol counter (if p c o b e) rest (b before rest)
+  ifFails : {p o : ℕ} {c : Condition} {b rest : Statements} {e : Rest}
       → holds symbol counter c ≡ false
-      → Turns symbol counter (if c o b) rest rest
-  elseHolds : {c : Condition} {o o′ : ℕ} {b b′ rest : Statements}
+      → Turns symbol counter (if p c o b e) rest (otherwise e before rest)
+  whileHolds : {p o : ℕ} {c : Condition} {b rest : Statements}
       → holds symbol counter c ≡ true
-      → Turns symbol counter (ifElse c o b o′ b′) rest (b before rest)
-  elseFails : {c : Condition} {o o′ : ℕ} {b b′ rest : Statements}
+      → Turns symbol counter (while p c o b) rest (b before (while p c o b then rest))
+  whileFails : {p o : ℕ} {c : Condition} {b rest : Statements}
       → holds symbol counter c ≡ false
-      → Turns symbol counter (ifElse c o b o′ b′) rest (b′ before rest)
-  whileHolds : {c : Condition} {o : ℕ} {b rest : Statements}
-      → holds symbol counter c ≡ true
-      → Turns symbol counter (while c o b) rest (b before (while c o b then rest))
-  whileFails : {c : Condition} {o : ℕ} {b rest : Statements}
-      → holds symbol counter c ≡ false
-      → Turns symbol counter (while c o b) rest rest
-  goesRound : {o : ℕ} {b rest : Statements} → Turns symbol counter (choose o b) rest (b before (choose o b then rest))
-  stops : {o : ℕ} {b rest : Statements} → Turns symbol counter (choose o b) rest rest
-  firstArm : {o : ℕ} {b rest : Statements} {a : Arms} → Turns symbol counter (branch o b a) rest (b before rest)
-  otherArm : {o : ℕ} {b c rest : Statements} {a : Arms} → Arm c a → Turns symbol counter (branch o b a) rest (c before rest)
+      → Turns symbol counter (while p c o b) rest rest
+  goesRound : {p o : ℕ} {b rest : Statements} → Turns symbol counter (choose p o b) rest (b before (choose p o b then rest))
+  stops : {p o : ℕ} {b rest : Statements} → Turns symbol counter (choose p o b) rest rest
+  firstArm : {p o : ℕ} {b rest : Statements} {a : Arms} → Turns symbol counter (branch p o b a) rest (b before rest)
+  otherArm : {p o : ℕ} {b c rest : Statements} {a : Arms} → Arm c a → Turns symbol counter (branch p o b a) rest (c before rest)
 
 -- one step of a run; none starts from `accept`, from `reject` and from the end of the program
 pub data Goes (word : List ℕ) (stopsAtZero : Bool) : Standing → Standing → Type 0 where
-  does : {e : Plain} {rest : Statements} {cell counter counter′ : ℕ}
+  does : {e : Plain} {rest : Statements} {p cell counter counter′ : ℕ}
       → counterAfter stopsAtZero e counter ≡ some counter′
       → Goes word stopsAtZero
-      (record { left = plain e then rest; cell = cell; counter = counter })
+      (record { left = plain p e then rest; cell = cell; counter = counter })
       (record { left = rest; cell = cellAfter word e cell; counter = counter′ })
   turns : {a : Statement} {rest next : Statements} {cell counter : ℕ}
       → Turns (symbolOn word cell) counter a rest next
@@ -123,7 +122,8 @@ pub data Comes (p : Program) (word : List ℕ) (limit : ℕ) : Standing → Type
 
 -- some run of the program within the limit comes to `accept`
 pub record ProgramAccepts (p : Program) (word : List ℕ) (limit : ℕ) : Type 0 where
+  pub place : ℕ
   pub rest : Statements
   pub cell : ℕ
   pub counter : ℕ
-  pub comes : Comes p word limit (record { left = accept then rest; cell = cell; counter = counter })
+  pub comes : Comes p word limit (record { left = accept place then rest; cell = cell; counter = counter })

@@ -1,4 +1,5 @@
--- The tree of a program. It keeps the places of the tokens that limits speak of: letters, numbers, `{`, `(`, `!` and `also`.
+-- The tree of a program. It keeps the places of the tokens that something speaks of: of those that limits are for, letters,
+-- numbers, `{`, `(`, `!` and `also`; of the first of each statement and of each atom; and of the word `true` or `false`.
 use Prim.Native.Nat.{ℕ}
 use mathlib.Core.Bool.{Bool}
 use mathlib.Core.List.{List, [], _∷_}
@@ -25,8 +26,9 @@ pub data Atom : Type 0 where
   counterIs : Number → Atom
   counterIsNot : Number → Atom
 
+-- an atom with the place of its `read` or `c`; parentheses and `!` with their places
 pub data Condition : Type 0 where
-  atom : Atom → Condition
+  atom : ℕ → Atom → Condition
   parens : ℕ → Condition → Condition
   negation : ℕ → Condition → Condition
   both : Condition → Condition → Condition
@@ -43,18 +45,23 @@ pub data Plain : Type 0 where
   add : Number → Plain
   subtract : Number → Plain
 
--- a block is the place of its `{` and its statements; an arm after the first has the place of its `also` too
+-- a statement begins with the place of its first token; a block is the place of its `{` and its statements; an arm after the
+-- first has the place of its `also` too
 infixr 30 _then_
 mutual
   pub data Statement : Type 0 where
-    plain : Plain → Statement
-    accept : Statement
-    reject : Statement
-    if : Condition → ℕ → Statements → Statement
-    ifElse : Condition → ℕ → Statements → ℕ → Statements → Statement
-    while : Condition → ℕ → Statements → Statement
-    choose : ℕ → Statements → Statement
-    branch : ℕ → Statements → Arms → Statement
+    plain : ℕ → Plain → Statement
+    accept : ℕ → Statement
+    reject : ℕ → Statement
+    if : ℕ → Condition → ℕ → Statements → Rest → Statement
+    while : ℕ → Condition → ℕ → Statements → Statement
+    choose : ℕ → ℕ → Statements → Statement
+    branch : ℕ → ℕ → Statements → Arms → Statement
+
+  -- what stands behind an if's block: nothing, or `else` and a block
+  pub data Rest : Type 0 where
+    nothing : Rest
+    else : ℕ → Statements → Rest
 
   pub data Statements : Type 0 where
     done : Statements
@@ -64,10 +71,17 @@ mutual
     lastArm : ℕ → ℕ → Statements → Arms
     moreArms : ℕ → ℕ → Statements → Arms → Arms
 
+-- which of the two settings stands first
+pub data Order : Type 0 where
+  alphabetFirst : Order
+  decrementFirst : Order
+
 pub record Program : Type 0 where
+  pub first : Order
   pub alphabet : List Letter
-  -- decr_on_zero
+  -- decr_on_zero, and the place of its word `true` or `false`
   pub stops : Bool
+  pub truth : ℕ
   pub brace : ℕ
   pub body : Statements
 

@@ -88,15 +88,16 @@ pub record NoSign (text : List ℕ) (from : ℕ) : Type 0 where
   pub first : First text from token
   pub none : isSign token ≡ false
 
--- the tokens from one byte to another, behind some others, are an atom
+-- the tokens from one byte to another, behind some others, are an atom, whose first word is at this place
 pub record IsFound (text : List ℕ) (from : ℕ) (lead : Ts → Ts) (atom : Atom) (to : ℕ) : Type 0 where
   pub before : List Placed
   pub after : List Placed
   pub ending : Ending
   pub here : Tokens from (drop from text) before ending
   pub there : Tokens to (drop to text) after ending
+  pub place : ℕ
   pub tree : Tree.Atom
-  pub derived : IsAtom (lead before) tree after
+  pub derived : IsAtom (lead before) place tree after
   pub zeroed : Zeroed tree
   pub is : atom ≡ atomOf tree
   pub forth : from < to

@@ -10,7 +10,7 @@ use Rattle.text.specs.Tokens.{Placed, _at_, Ending, ends, broken}
 use Rattle.text.proofs.Scan.{scan}
 use Rattle.text.proofs.Same.{sameToken}
 use Rattle.rule.specs.Tree as Tree
-use Rattle.rule.specs.Tree.{Number, Letter, Sought, Atom, Condition, Plain, Statement, Statements, Arms, Program, done, _then_}
+use Rattle.rule.specs.Tree.{Number, Letter, Sought, Atom, Condition, Plain, Statement, Rest, Statements, Arms, Program, done, _then_}
 use Rattle.rule.specs.Limits.{isIn, inForm, valueFrom}
 use Rattle.rule.specs.Inside.Class.{Mark, spell, Class, mark, classify}
 
@@ -55,23 +55,23 @@ pub data Symbol : Type 0 where
 abbrev pub Stack : Type 0
 Stack = List Symbol
 
--- what a symbol's tokens give. What may follow something says what becomes of that: behind an `if`'s condition and block,
--- the statements; behind an `also` and its block, the arms; behind an operand, the conjunction and then the whole condition
+-- what a symbol's tokens give. What may follow something says what becomes of that: behind an `also` and its block, the arms;
+-- behind an operand, the conjunction and then the whole condition. Behind `while` its place is still to come
 abbrev pub Value : Symbol → Type 0
 Value (exact m) = Unit {0}
 Value program = Program
 Value alphabet = List Letter
-Value decrement = Bool
+Value decrement = Bool × ℕ
 Value letters = List Letter
 Value moreLetters = List Letter
-Value truth = Bool
+Value truth = Bool × ℕ
 Value body = ℕ × Statements
 Value (block d) = ℕ × Statements
 Value (statements d) = Statements
-Value (orElse d) = Condition → ℕ → Statements → Statements
+Value (orElse d) = Rest × Statements
 Value (arms d n) = Arms × Statements
 Value (orAlso d n) = (ℕ → ℕ → Statements → Arms) × Statements
-Value (loop d) = Statement
+Value (loop d) = ℕ → Statement
 Value distance = Plain
 Value end = Plain
 Value change = Plain
@@ -175,27 +175,27 @@ module _ (t : Totals) (p : ℕ) where
       (free
       (counted 1 1 t)
       (exact Mark.opens ∷ distance ∷ statements d ∷ [])
-      (λ st (_, (e, (b, vs))). (Tree.plain e then b, vs)))
+      (λ st (_, (e, (b, vs))). (Tree.plain p e then b, vs)))
       ∷ on
       Mark.goto
-      (free (counted 1 1 t) (exact Mark.opens ∷ end ∷ statements d ∷ []) (λ st (_, (e, (b, vs))). (Tree.plain e then b, vs)))
-      ∷ on Mark.c (free (counted 1 1 t) (change ∷ statements d ∷ []) (λ st (e, (b, vs)). (Tree.plain e then b, vs)))
+      (free (counted 1 1 t) (exact Mark.opens ∷ end ∷ statements d ∷ []) (λ st (_, (e, (b, vs))). (Tree.plain p e then b, vs)))
+      ∷ on Mark.c (free (counted 1 1 t) (change ∷ statements d ∷ []) (λ st (e, (b, vs)). (Tree.plain p e then b, vs)))
       ∷ on
       Mark.accept
-      (free (counted 1 0 t) (exact Mark.semicolon ∷ statements d ∷ []) (λ st (_, (b, vs)). (Tree.accept then b, vs)))
+      (free (counted 1 0 t) (exact Mark.semicolon ∷ statements d ∷ []) (λ st (_, (b, vs)). (Tree.accept p then b, vs)))
       ∷ on
       Mark.reject
-      (free (counted 1 0 t) (exact Mark.semicolon ∷ statements d ∷ []) (λ st (_, (b, vs)). (Tree.reject then b, vs)))
+      (free (counted 1 0 t) (exact Mark.semicolon ∷ statements d ∷ []) (λ st (_, (b, vs)). (Tree.reject p then b, vs)))
       ∷ on
       Mark.if
       (free
       (counted 3 2 t)
       (exact Mark.opens ∷ operand 0 ∷ tail 0 ∷ block d ∷ orElse d ∷ [])
-      (λ st (_, (c, ((f, g), ((o, b), (e, vs))))). (e (g (f c)) o b, vs)))
-      ∷ on Mark.while (free t (loop d ∷ statements d ∷ []) (λ st (a, (b, vs)). (a then b, vs)))
+      (λ st (_, (c, ((f, g), ((o, b), ((e, a), vs))))). (Tree.if p (g (f c)) o b e then a, vs)))
+      ∷ on Mark.while (free t (loop d ∷ statements d ∷ []) (λ st (a, (b, vs)). (a p then b, vs)))
       ∷ on
       Mark.branch
-      (free (counted 2 2 t) (block d ∷ arms d 1 ∷ []) (λ st ((o, b), ((a, c), vs)). (Tree.branch o b a then c, vs)))
+      (free (counted 2 2 t) (block d ∷ arms d 1 ∷ []) (λ st ((o, b), ((a, c), vs)). (Tree.branch p o b a then c, vs)))
       ∷ []
 
   abbrev pub choices : (x : Symbol) → List (Choice (Value x))
@@ -206,13 +206,15 @@ module _ (t : Totals) (p : ℕ) where
       (free
       t
       (exact Mark.equals ∷ exact Mark.openList ∷ letters ∷ exact Mark.semicolon ∷ decrement ∷ body ∷ [])
-      (λ st (_, (_, (l, (_, (d, ((o, b), vs)))))). (record { alphabet = l; stops = d; brace = o; body = b }, vs)))
+      (λ st (_, (_, (l, (_, ((d, r), ((o, b), vs)))))).
+      (record { first = Tree.alphabetFirst; alphabet = l; stops = d; truth = r; brace = o; body = b }, vs)))
       ∷ on
       Mark.decrOnZero
       (free
       t
       (exact Mark.equals ∷ truth ∷ alphabet ∷ body ∷ [])
-      (λ st (_, (d, (l, ((o, b), vs)))). (record { alphabet = l; stops = d; brace = o; body = b }, vs)))
+      (λ st (_, ((d, r), (l, ((o, b), vs)))).
+      (record { first = Tree.decrementFirst; alphabet = l; stops = d; truth = r; brace = o; body = b }, vs)))
       ∷ []
   choices alphabet =
       on
@@ -239,8 +241,8 @@ module _ (t : Totals) (p : ℕ) where
       ∷ on Mark.comma (free t (letters ∷ []) (λ st vs. vs))
       ∷ []
   choices truth =
-      on Mark.isTrue (free t (exact Mark.semicolon ∷ []) (λ st (_, vs). (true, vs)))
-      ∷ on Mark.isFalse (free t (exact Mark.semicolon ∷ []) (λ st (_, vs). (false, vs)))
+      on Mark.isTrue (free t (exact Mark.semicolon ∷ []) (λ st (_, vs). ((true, p), vs)))
+      ∷ on Mark.isFalse (free t (exact Mark.semicolon ∷ []) (λ st (_, vs). ((false, p), vs)))
       ∷ []
   choices body =
       on
@@ -255,8 +257,8 @@ module _ (t : Totals) (p : ℕ) where
   choices (orElse d) =
       on
       Mark.else
-      (free t (block d ∷ statements d ∷ []) (λ st ((o′, b′), (a, vs)). ((λ c o b. Tree.ifElse c o b o′ b′ then a), vs)))
-      ∷ map (alongChoice (λ a c o b. Tree.if c o b then a)) (statementChoices d)
+      (free t (block d ∷ statements d ∷ []) (λ st ((o, b), (a, vs)). ((Tree.else o b, a), vs)))
+      ∷ map (alongChoice (λ a. (Tree.nothing, a))) (statementChoices d)
   choices (arms d n) = on Mark.also (also d n) ∷ []
   choices (orAlso d n) =
       on Mark.also (along (λ (a, b). ((λ q o c. Tree.moreArms q o c a), b)) (also d n))
@@ -267,8 +269,8 @@ module _ (t : Totals) (p : ℕ) where
       (free
       (counted 2 1 t)
       (operand 0 ∷ tail 0 ∷ block d ∷ [])
-      (λ st (c, ((f, g), ((o, b), vs))). (Tree.while (g (f c)) o b, vs)))
-      ∷ on Mark.choose (free (counted 2 3 t) (block d ∷ []) (λ st ((o, b), vs). (Tree.choose o b, vs)))
+      (λ st (c, ((f, g), ((o, b), vs))). ((λ q. Tree.while q (g (f c)) o b), vs)))
+      ∷ on Mark.choose (free (counted 2 3 t) (block d ∷ []) (λ st ((o, b), vs). ((λ q. Tree.choose q o b), vs)))
       ∷ []
   choices distance =
       aNumber 63 (exact Mark.closes ∷ exact Mark.semicolon ∷ []) (λ n st (_, (_, vs)). (Tree.moveBy n, vs))
@@ -291,8 +293,8 @@ module _ (t : Totals) (p : ℕ) where
       ∷ []
   choices (number greatest) = aNumber greatest [] (λ n st vs. (n, vs)) ∷ []
   choices (operand n) =
-      on Mark.read (free (counted 0 (length (t .alphabet) + 2) t) (readTest ∷ []) (λ st (a, vs). (Tree.atom a, vs)))
-      ∷ on Mark.c (free (counted 0 2 t) (counterTest ∷ []) (λ st (a, vs). (Tree.atom a, vs)))
+      on Mark.read (free (counted 0 (length (t .alphabet) + 2) t) (readTest ∷ []) (λ st (a, vs). (Tree.atom p a, vs)))
+      ∷ on Mark.c (free (counted 0 2 t) (counterTest ∷ []) (λ st (a, vs). (Tree.atom p a, vs)))
       ∷ on
       Mark.opens
       (deeper n (operand (suc n) ∷ tail (suc n) ∷ []) (λ st (c, ((f, g), vs)). (Tree.parens p (g (f c)), vs)))
