@@ -69,6 +69,11 @@ fn closed(lines: &[&str]) -> (String, usize) {
     (text, lines.len())
 }
 
+/// Not the beginning of an argument or of a value.
+fn is_name(word: &str) -> bool {
+    !word.starts_with(['(', '{', 'λ', '→'])
+}
+
 /// A long type stands on the lines behind its name.
 fn next_is_type(lines: &[&str], next: usize) -> bool {
     lines.get(next).is_some_and(|line| line.trim_start().starts_with(": "))
@@ -106,22 +111,22 @@ fn read_antt(text: &str) -> File {
         }
         let Some(first) = words.next() else { continue };
         let second = words.next();
-        if first == "record" || first == "data" {
+        if (first == "record" || first == "data") && second.is_some_and(is_name) {
             current = second.unwrap_or_default().to_string();
             open = Some((current.clone(), indent));
             file.declared.insert(current.clone());
         } else if let (Some((whole, at)), Some(":")) = (&open, second) {
-            if indent == at + 2 {
+            if indent == at + 2 && is_name(first) {
                 file.declared.insert(first.to_string());
                 // a field is written `pub`, and its name alone does not say whose it is
                 if !trimmed.starts_with("pub ") {
                     file.part_of.insert(first.to_string(), whole.clone());
                 }
             }
-        } else if open.is_none() && (second == Some(":") || (second.is_none() && next_is_type(&lines, n))) {
+        } else if open.is_none() && is_name(first) && (second == Some(":") || (second.is_none() && next_is_type(&lines, n))) {
             current = first.to_string();
             file.declared.insert(current.clone());
-        } else if open.is_none() && file.declared.contains(first) {
+        } else if open.is_none() && file.words.contains_key(first) {
             current = first.to_string();
         }
         let said = file.words.entry(current.clone()).or_default();
