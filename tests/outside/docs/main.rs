@@ -85,6 +85,8 @@ fn read_antt(text: &str) -> File {
     let mut current = String::new();
     // the record or data type that is open, and its indent
     let mut open: Option<(String, usize)> = None;
+    // where the definitions begin: a line further in goes on with the one before it
+    let mut indents: BTreeMap<String, usize> = BTreeMap::new();
     let mut n = 0;
     while n < lines.len() {
         let line = lines[n];
@@ -114,6 +116,7 @@ fn read_antt(text: &str) -> File {
         if (first == "record" || first == "data") && second.is_some_and(is_name) {
             current = second.unwrap_or_default().to_string();
             open = Some((current.clone(), indent));
+            indents.insert(current.clone(), indent);
             file.declared.insert(current.clone());
         } else if let (Some((whole, at)), Some(":")) = (&open, second) {
             if indent == at + 2 && is_name(first) {
@@ -125,8 +128,9 @@ fn read_antt(text: &str) -> File {
             }
         } else if open.is_none() && is_name(first) && (second == Some(":") || (second.is_none() && next_is_type(&lines, n))) {
             current = first.to_string();
+            indents.insert(current.clone(), indent);
             file.declared.insert(current.clone());
-        } else if open.is_none() && file.words.contains_key(first) {
+        } else if open.is_none() && indents.get(first) == Some(&indent) {
             current = first.to_string();
         }
         let said = file.words.entry(current.clone()).or_default();
