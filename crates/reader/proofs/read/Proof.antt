@@ -1,4 +1,4 @@
--- `rule::read` keeps its promise.
+-- `reader::read` keeps its promise.
 use mathlib.Core.Path.{ap, _∙_}
 use Rattle.reader.specs.Inside.Answers.{outcomeOf}
 use Rattle.reader.proofs.Promise.{too-long, faulty, too-many-states, too-many-rows, all-taken}

@@ -1,4 +1,4 @@
--- `rule::answers::refuse` meets its contract, by the cases of the token.
+-- `reader::answers::refuse` meets its contract, by the cases of the token.
 use borrow.Author.Needs.{needs}
 use mathlib.Core.Path.{sym, ap}
 use Rattle.reader.specs.Atom.{refusalOf}

@@ -1,4 +1,4 @@
--- `rule::answers::sign_at` meets its contract: its tests are those of a sign that is written with one byte.
+-- `reader::answers::sign_at` meets its contract: its tests are those of a sign that is written with one byte.
 use native.Mathlib.Omega.{arith}
 use borrow.Author.Needs.{needs}
 use Rattle.reader.proofs.Front.{front-sign}

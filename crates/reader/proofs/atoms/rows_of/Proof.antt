@@ -1,4 +1,4 @@
--- `rule::atoms::rows_of` meets its contract.
+-- `reader::atoms::rows_of` meets its contract.
 use mathlib.Core.Path.{sym, ap}
 use Rattle.reader.specs.Inside.Atoms.{rowsOf}
 use borrow.Author.Needs.{needs}

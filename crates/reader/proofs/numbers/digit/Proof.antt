@@ -1,4 +1,4 @@
--- `rule::numbers::digit` meets its contract.
+-- `reader::numbers::digit` meets its contract.
 use native.Mathlib.Omega.{arith}
 use mathlib.Core.Path.{refl}
 use Rattle.rule.proofs.Digits.{digit-bounds}

@@ -1,4 +1,4 @@
--- `rule::numbers::number_at` meets its contract.
+-- `reader::numbers::number_at` meets its contract.
 use native.Mathlib.Omega.{arith}
 use mathlib.Core.Path.{refl, sym, _∙_}
 use Rattle.rule.proofs.Digits.{number-digits}

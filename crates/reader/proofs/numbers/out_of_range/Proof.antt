@@ -1,4 +1,4 @@
--- `rule::numbers::out_of_range` meets its contract, by how many digits there are.
+-- `reader::numbers::out_of_range` meets its contract, by how many digits there are.
 use native.Mathlib.Omega.{arith}
 use Rattle.rule.proofs.Digits.{digit-at, one-digit, many-digits, leading-zero, two-digits}
 use borrow.Author.Needs.{needs}

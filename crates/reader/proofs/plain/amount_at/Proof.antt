@@ -1,4 +1,4 @@
--- `rule::plain::amount_at` meets its contract.
+-- `reader::plain::amount_at` meets its contract.
 use mathlib.Core.Path.{refl}
 use mathlib.Core.List.{[]}
 use Rattle.rule.specs.Inside.Class.{Mark}

@@ -1,4 +1,4 @@
--- `rule::plain::cells_at` meets its contract.
+-- `reader::plain::cells_at` meets its contract.
 use mathlib.Core.List.{[]}
 use Rattle.reader.proofs.Moves.{went-ready, then, stop}
 use borrow.Author.Needs.{needs}

@@ -1,4 +1,4 @@
--- `rule::plain::distance_at` meets its contract.
+-- `reader::plain::distance_at` meets its contract.
 use mathlib.Core.Path.{refl}
 use Rattle.rule.specs.Inside.Class.{Mark}
 use Rattle.reader.proofs.Front.{told-sign}

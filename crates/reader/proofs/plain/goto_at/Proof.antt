@@ -1,4 +1,4 @@
--- `rule::plain::goto_at` meets its contract.
+-- `reader::plain::goto_at` meets its contract.
 use mathlib.Core.Path.{refl}
 use mathlib.Core.List.{[]}
 use Rattle.rule.specs.Inside.Class.{Mark}

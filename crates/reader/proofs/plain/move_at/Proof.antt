@@ -1,4 +1,4 @@
--- `rule::plain::move_at` meets its contract.
+-- `reader::plain::move_at` meets its contract.
 use mathlib.Core.Path.{refl}
 use mathlib.Core.List.{[]}
 use Rattle.rule.specs.Inside.Class.{Mark}

@@ -1,4 +1,4 @@
--- `rule::programs::head_at` meets its contract.
+-- `reader::programs::head_at` meets its contract.
 use mathlib.Core.Path.{refl}
 use mathlib.Core.List.{[]}
 use Rattle.rule.specs.Inside.Class.{Mark}

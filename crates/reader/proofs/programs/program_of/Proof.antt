@@ -1,4 +1,4 @@
--- `rule::programs::program_of` meets its contract.
+-- `reader::programs::program_of` meets its contract.
 use native.Mathlib.Omega.{arith}
 use mathlib.Core.List.{[]}
 use Rattle.reader.specs.Inside.Answers.{alphabetOf}

@@ -1,4 +1,4 @@
--- `rule::programs::string_at` meets its contract.
+-- `reader::programs::string_at` meets its contract.
 use mathlib.Core.Path.{refl}
 use Rattle.rule.specs.Inside.Class.{Mark}
 use Rattle.reader.proofs.Front.{told-word}

@@ -1,4 +1,4 @@
--- `rule::settings::alphabet_first_at` meets its contract.
+-- `reader::settings::alphabet_first_at` meets its contract.
 use mathlib.Core.Path.{refl}
 use Rattle.reader.specs.Inside.Answers.{alphabetOf}
 use Rattle.reader.proofs.Front.{told-word}

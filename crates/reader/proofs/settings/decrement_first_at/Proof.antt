@@ -1,4 +1,4 @@
--- `rule::settings::decrement_first_at` meets its contract.
+-- `reader::settings::decrement_first_at` meets its contract.
 use mathlib.Core.Path.{refl}
 use mathlib.Core.List.{[]}
 use Rattle.reader.proofs.Front.{told-word}

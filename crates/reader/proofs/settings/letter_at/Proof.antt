@@ -1,4 +1,4 @@
--- `rule::settings::letter_at` meets its contract.
+-- `reader::settings::letter_at` meets its contract.
 use mathlib.Core.Path.{refl, sym, _∙_}
 use Rattle.reader.proofs.Front.{front-letter}
 use Rattle.reader.proofs.Moves.{done, step, break, ready-on}

@@ -1,4 +1,4 @@
--- `rule::settings::letters_at` meets its contract: each turn of the loop takes a letter and a comma.
+-- `reader::settings::letters_at` meets its contract: each turn of the loop takes a letter and a comma.
 use Prim.Native.Nat.{ℕ, _-_}
 use native.Mathlib.Omega.{arith}
 use mathlib.Core.Path.{refl, sym, subst}

@@ -1,4 +1,4 @@
--- `rule::settings::refused` meets its contract.
+-- `reader::settings::refused` meets its contract.
 use mathlib.Core.Path.{refl}
 use borrow.Author.Needs.{needs}
 use Rattle.reader.proofs.settings.refused.Statement.{statement}

@@ -1,4 +1,4 @@
--- `rule::settings::settings_of` meets its contract.
+-- `reader::settings::settings_of` meets its contract.
 use mathlib.Core.Path.{refl}
 use Rattle.reader.proofs.Front.{told-word}
 use Rattle.reader.proofs.Moves.{step, over, ready-on, ready-start}

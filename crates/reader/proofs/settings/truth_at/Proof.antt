@@ -1,4 +1,4 @@
--- `rule::settings::truth_at` meets its contract.
+-- `reader::settings::truth_at` meets its contract.
 use mathlib.Core.Path.{refl}
 use mathlib.Core.List.{[]}
 use Rattle.rule.specs.Inside.Class.{Mark}

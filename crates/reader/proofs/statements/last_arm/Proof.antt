@@ -1,4 +1,4 @@
--- `rule::statements::last_arm` meets its contract.
+-- `reader::statements::last_arm` meets its contract.
 use mathlib.Core.Path.{refl, ap}
 use Rattle.reader.specs.declared.answers.Read.the-variants.{Refused}
 use borrow.Author.Needs.{needs}

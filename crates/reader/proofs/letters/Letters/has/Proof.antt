@@ -1,4 +1,4 @@
--- `rule::letters::Letters::has` meets its contract: what is left to look at has the letter exactly when the whole has.
+-- `reader::letters::Letters::has` meets its contract: what is left to look at has the letter exactly when the whole has.
 use Prim.Native.Nat.{_-_, _≤_}
 use native.Mathlib.Omega.{arith}
 use mathlib.Core.Path.{_≡_, refl, sym, _∙_}

@@ -1,4 +1,4 @@
--- `rule::letters::Letters::with` meets its contract.
+-- `reader::letters::Letters::with` meets its contract.
 use Rattle.reader.proofs.Alphabet.{one-more}
 use borrow.Author.Needs.{needs}
 use Rattle.reader.proofs.letters.Letters.with.Statement.{statement}
