@@ -5,7 +5,7 @@ use mathlib.Core.Path.{_≡_, sym, _∙_, ap}
 use mathlib.Core.List.{List, _++_, append-assoc, append-nil}
 use lib.ListN.{length, take, drop, length-drop, drop-of-length-le}
 use lib.Seq.{take-at, drop-drop, drop-append-add, take-all}
-use Rattle.bits.specs.Over.{over}
+use Rattle.bits.specs.Inside.Over.{over}
 
 -- what a prefix and old bytes become where new bytes are put behind the prefix
 pub over-behind : (xs new old : List ℕ) (n : ℕ) → length xs ≡ n → over (xs ++ drop n old) n new ≡ (xs ++ new) ++ drop (n + length new) old

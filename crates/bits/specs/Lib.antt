@@ -2,4 +2,4 @@
 pub mod Bit
 pub mod Byte
 pub mod Size
-pub mod Over
+pub mod Inside

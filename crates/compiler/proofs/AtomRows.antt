@@ -12,11 +12,11 @@ use lib.Dec.{eqb}
 use borrow.Author.Tests.{eq-eqb, ne-eqb}
 use Rattle.table.specs.Table.{Row}
 use Rattle.construction.specs.Construction.{testRow, eitherCounter, countUp, allSymbols, without, symbolRows}
-use Rattle.compiler.specs.Writing.{Sheet, Holds, Filled, Room, Writes, Counts}
+use Rattle.compiler.specs.Inside.Writing.{Sheet, Holds, Filled, Room, Writes, Counts}
 use Rattle.reader.specs.declared.atoms.Symbol.{Symbol}
 use Rattle.reader.specs.declared.atoms.Atom.{Atom as Tested}
 use Rattle.reader.specs.declared.atoms.Atom.the-variants as Tested
-use Rattle.compiler.specs.Atoms.{counterRows, readRows, codeOf, walkedAs, rowsOf, Codes}
+use Rattle.compiler.specs.Inside.Atoms.{counterRows, readRows, codeOf, walkedAs, rowsOf, Codes}
 use Rattle.construction.proofs.Symbols.{length-countUp, length-symbols}
 
 -- the symbols by their number

@@ -49,8 +49,8 @@ use Rattle.reader.specs.declared.atoms.Atom.the-variants as Atom
 use Rattle.reader.specs.declared.atoms.AtomRead.{AtomRead}
 use Rattle.reader.specs.declared.atoms.AtomRead.the-variants.{Found, Refused}
 use Rattle.construction.specs.Construction.{symbolCode, atomRows}
-use Rattle.compiler.specs.Seeing.{Here, Behind}
-use Rattle.compiler.specs.Atoms.{readRows, codeOf, rowsOf}
+use Rattle.compiler.specs.Inside.Seeing.{Here, Behind}
+use Rattle.compiler.specs.Inside.Atoms.{readRows, codeOf, rowsOf}
 use Rattle.compiler.proofs.Tags.{wordTag, signTag}
 use Rattle.compiler.proofs.Seeing.{wordIn, signIn, endOf, first-seen, seen-behind, seen-word, seen-sign, no-other, no-semicolon}
 

@@ -19,9 +19,9 @@ use Rattle.rule.specs.Grammar.{Ts, IsArms, block}
 use Rattle.rule.proofs.Invert.{Branch, arms, statement-branch, Arm, lone, andMore, behind-also}
 use Rattle.rule.proofs.Within.{StatementWithin, ArmsWithin}
 use Rattle.construction.specs.Construction.{free, Part, armPart, andThen, statementPart, statementsPart, armsPart}
-use Rattle.compiler.specs.Writing.{Sheet, Room, Writes}
-use Rattle.compiler.specs.Seeing.{SeenAs, Sees}
-use Rattle.compiler.specs.Emission.{Doing, Emitted, rowsPart, Follows, HeadedTask, closedPart, BodyTask, aBody, ArmsTask, theArms}
+use Rattle.compiler.specs.Inside.Writing.{Sheet, Room, Writes}
+use Rattle.compiler.specs.Inside.Seeing.{SeenAs, Sees}
+use Rattle.compiler.specs.Inside.Emission.{Doing, Emitted, rowsPart, Follows, HeadedTask, closedPart, BodyTask, aBody, ArmsTask, theArms}
 use Rattle.compiler.specs.declared.Place.{Place}
 use Rattle.compiler.specs.declared.see.Seen.{Seen}
 use Rattle.construction.proofs.Counts.{statements-next, arms-next}

@@ -13,7 +13,7 @@ use Rattle.reader.specs.Reading.{reasons as readingReasons, Whole, ReadsTo}
 use Rattle.reader.specs.declared.Reading.the-variants as Reading
 use Rattle.construction.specs.Construction.{construct}
 use Rattle.construction.specs.Compile.{imageRoom, reasons, Compiled, Refused, Compiles}
-use Rattle.compiler.specs.Setting.{Fits, Emittable, Images}
+use Rattle.compiler.specs.Inside.Setting.{Fits, Emittable, Images}
 use Rattle.construction.specs.declared.Answer.{Answer}
 use Rattle.construction.specs.declared.Answer.the-variants as Answer
 use Rattle.construction.proofs.Counts.{states-formula, rows-formula}

@@ -8,9 +8,9 @@ use Rattle.text.specs.Tokens.{Placed}
 use Rattle.table.specs.Table.{Row}
 use Rattle.rule.specs.Grammar.{Ts}
 use Rattle.construction.specs.Construction.{Part}
-use Rattle.compiler.specs.Writing.{Sheet, Held, Filled, Room, Writes}
-use Rattle.compiler.specs.Seeing.{Here, Reaches, Passes}
-use Rattle.compiler.specs.Emission.{At, Task, Doing, Ready, Emitted, rowsPart}
+use Rattle.compiler.specs.Inside.Writing.{Sheet, Held, Filled, Room, Writes}
+use Rattle.compiler.specs.Inside.Seeing.{Here, Reaches, Passes}
+use Rattle.compiler.specs.Inside.Emission.{At, Task, Doing, Ready, Emitted, rowsPart}
 use Rattle.compiler.specs.declared.Place.{Place}
 
 -- a task that can be done

@@ -22,9 +22,9 @@ use Rattle.rule.proofs.Invert.{If, statement-if, While, statement-while}
 use Rattle.rule.proofs.Invert as Invert
 use Rattle.rule.proofs.Within.{StatementWithin, RestWithin}
 use Rattle.construction.specs.Construction.{free, Part, test, ifPart, loopPart, andThen, statementPart, restPart, statementsPart}
-use Rattle.compiler.specs.Writing.{Sheet, Filled, Room, Writes}
-use Rattle.compiler.specs.Seeing.{Here, Behind, SeenAs, Sees, Passes}
-use Rattle.compiler.specs.Emission.{At, Task, Doing, Emitted, rowsPart, TestTask, tests, EntryTask, chooses, asks, Follows, HeadedTask, RestTask, theRest, closedPart, BodyTask, aBody, ElseTask, anElse}
+use Rattle.compiler.specs.Inside.Writing.{Sheet, Filled, Room, Writes}
+use Rattle.compiler.specs.Inside.Seeing.{Here, Behind, SeenAs, Sees, Passes}
+use Rattle.compiler.specs.Inside.Emission.{At, Task, Doing, Emitted, rowsPart, TestTask, tests, EntryTask, chooses, asks, Follows, HeadedTask, RestTask, theRest, closedPart, BodyTask, aBody, ElseTask, anElse}
 use Rattle.compiler.specs.declared.Place.{Place}
 use Rattle.compiler.specs.declared.see.Seen.{Seen}
 use Rattle.construction.proofs.Counts.{test-next, rest-next, statements-next}

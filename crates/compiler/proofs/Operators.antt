@@ -44,10 +44,10 @@ use Rattle.rule.specs.Grammar.{
   tight,
   either,
 }
-use Rattle.compiler.specs.Seeing as Seen
-use Rattle.compiler.specs.Seeing.{Here, SeenAs}
-use Rattle.compiler.specs.Operators.{Mark, opening, closing, and, or, other, lookAt, markOf, marked, onward, ahead}
-use Rattle.compiler.specs.Emission.{Closes, byParen, byOr, joins, joined}
+use Rattle.compiler.specs.Inside.Seeing as Seen
+use Rattle.compiler.specs.Inside.Seeing.{Here, SeenAs}
+use Rattle.compiler.specs.Inside.Operators.{Mark, opening, closing, and, or, other, lookAt, markOf, marked, onward, ahead}
+use Rattle.compiler.specs.Inside.Emission.{Closes, byParen, byOr, joins, joined}
 use Rattle.compiler.specs.declared.ahead.Looked.{Looked}
 use Rattle.compiler.specs.declared.ahead.Looked.the-variants.{Answer, On}
 use Rattle.compiler.proofs.Seeing.{seen-behind}

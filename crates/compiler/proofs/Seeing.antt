@@ -27,9 +27,9 @@ use Rattle.tokeniser.proofs.Comes.{end-first}
 use Rattle.text.proofs.Once.{comes}
 use Rattle.text.proofs.Follow.{placeOf, first-onward}
 use Rattle.rule.specs.Limits.{valueFrom}
-use Rattle.compiler.specs.Seeing as Seen
+use Rattle.compiler.specs.Inside.Seeing as Seen
 use Rattle.compiler.proofs.Tags.{wordTag, signTag}
-use Rattle.compiler.specs.Seeing.{Here, Behind, SeenAs, nothing, Reaches, Digits}
+use Rattle.compiler.specs.Inside.Seeing.{Here, Behind, SeenAs, nothing, Reaches, Digits}
 
 -- what each answer shows
 abbrev pub wordIn : Token → Word

@@ -36,12 +36,12 @@ use Rattle.rule.proofs.Letters.{some-letter}
 use Rattle.rule.proofs.Within.{length-letterBytes, program-within}
 use Rattle.construction.specs.Construction.{programPart, construct}
 use Rattle.construction.specs.Compile.{imageRoom}
-use Rattle.bits.specs.Over.{over}
-use Rattle.compiler.specs.Writing.{acceptBytes, written, rowPlace, Holds, Heads}
-use Rattle.compiler.specs.Seeing as Seen
-use Rattle.compiler.specs.Seeing.{Here, SeenAs, Sees, Passes}
-use Rattle.compiler.specs.Emission.{Emits, RestTask, theRest}
-use Rattle.compiler.specs.Setting.{LettersAt, Listing, Lists, Tells, SettingsAt, Settings, Settling, Settles, Fits, sheetOf, Beginning, Image}
+use Rattle.bits.specs.Inside.Over.{over}
+use Rattle.compiler.specs.Inside.Writing.{acceptBytes, written, rowPlace, Holds, Heads}
+use Rattle.compiler.specs.Inside.Seeing as Seen
+use Rattle.compiler.specs.Inside.Seeing.{Here, SeenAs, Sees, Passes}
+use Rattle.compiler.specs.Inside.Emission.{Emits, RestTask, theRest}
+use Rattle.compiler.specs.Inside.Setting.{LettersAt, Listing, Lists, Tells, SettingsAt, Settings, Settling, Settles, Fits, sheetOf, Beginning, Image}
 use Rattle.compiler.specs.declared.Place.{Place}
 use Rattle.compiler.specs.declared.see.Seen.{Seen}
 use Rattle.compiler.specs.declared.settings.Listed.{Listed}

@@ -22,9 +22,9 @@ use Rattle.rule.specs.Grammar.{Ts, IsStatement, IsStatements}
 use Rattle.rule.proofs.Invert.{Stop, stops, statement-accept, statement-reject, If, While, Branch, rest-else, rest-also, Closed, closed, rest-brace}
 use Rattle.rule.proofs.Within.{StatementsWithin}
 use Rattle.construction.specs.Construction.{Part, andThen, statementPart, statementsPart}
-use Rattle.compiler.specs.Writing.{Sheet, Holds, Filled, Marks}
-use Rattle.compiler.specs.Seeing.{Here, SeenAs, Sees}
-use Rattle.compiler.specs.Emission.{At, Doing, Emitted, rowsPart, Follows, StatementTask, aStatement, HeadedTask, headed, Stops, RestTask, theRest}
+use Rattle.compiler.specs.Inside.Writing.{Sheet, Holds, Filled, Marks}
+use Rattle.compiler.specs.Inside.Seeing.{Here, SeenAs, Sees}
+use Rattle.compiler.specs.Inside.Emission.{At, Doing, Emitted, rowsPart, Follows, StatementTask, aStatement, HeadedTask, headed, Stops, RestTask, theRest}
 use Rattle.compiler.specs.declared.Place.{Place}
 use Rattle.compiler.specs.declared.see.Seen.{Seen}
 use Rattle.construction.proofs.Counts.{statements-next}

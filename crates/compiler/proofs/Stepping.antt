@@ -20,9 +20,9 @@ use Rattle.rule.specs.Grammar.{Ts, IsStatement}
 use Rattle.rule.proofs.Invert.{PlainOf, Move, forward, back, Goto, toLend, toRend, Change, up, down, upBy, downBy, statement-move, statement-goto, statement-change}
 use Rattle.rule.proofs.Within.{PlainWithin, StatementWithin}
 use Rattle.construction.specs.Construction.{moveCode, changeCode, Part, statementPart}
-use Rattle.compiler.specs.Writing.{Sheet, Filled, Room}
-use Rattle.compiler.specs.Seeing.{Here, Sees, Passes, Digits}
-use Rattle.compiler.specs.Emission.{Task, Doing, Emitted, Follows, aStatement, HeadedTask, headed, stepRow, Steps}
+use Rattle.compiler.specs.Inside.Writing.{Sheet, Filled, Room}
+use Rattle.compiler.specs.Inside.Seeing.{Here, Sees, Passes, Digits}
+use Rattle.compiler.specs.Inside.Emission.{Task, Doing, Emitted, Follows, aStatement, HeadedTask, headed, stepRow, Steps}
 use Rattle.compiler.specs.declared.Place.{Place}
 use Rattle.compiler.specs.declared.see.Seen.{Seen}
 use Rattle.compiler.proofs.Tags.{wordTag, signTag, wordTags, signTags, none-of}

@@ -22,17 +22,17 @@ use Rattle.rule.specs.Tree.{Atom, Condition}
 use Rattle.rule.specs.Grammar.{Ts, IsAtom, readIs, readIsNot, counterIs, counterIsNot, Binding, loosest, tightest, IsCondition, atom, parens, negation, tighter, both, tight, either}
 use Rattle.rule.proofs.Within.{AtomWithin, ConditionWithin}
 use Rattle.construction.specs.Construction.{Part, atomRows, Added, walk, oneAfterOther, oneOrOther, test}
-use Rattle.compiler.specs.Writing.{Sheet, Filled, Room, Writes}
-use Rattle.compiler.specs.Seeing.{Here, SeenAs, Sees, Passes}
+use Rattle.compiler.specs.Inside.Writing.{Sheet, Filled, Room, Writes}
+use Rattle.compiler.specs.Inside.Seeing.{Here, SeenAs, Sees, Passes}
 use Rattle.reader.specs.Atom.{AtomAt}
 use Rattle.reader.specs.Inside.Atoms.{atomOf}
 use Rattle.reader.specs.declared.atoms.Atom.{Atom as Tested}
 use Rattle.reader.specs.declared.atoms.AtomRead.{AtomRead}
 use Rattle.reader.specs.declared.atoms.AtomRead.the-variants.{Found, Refused}
 use Rattle.reader.proofs.atoms.AtomRead as read-type
-use Rattle.compiler.specs.Atoms.{rowsOf}
-use Rattle.compiler.specs.Emission.{At, Doing, Ready, Emitted, Emits, rowsPart, addedPart, AtomTask, anAtom, Closes, byParen, byOr, byAny, WalkTask, walks, joins, joined, takes, viaTo, viaFrom, viaNext, Goes, TestTask, tests}
-use Rattle.compiler.specs.Operators.{ahead, Ahead}
+use Rattle.compiler.specs.Inside.Atoms.{rowsOf}
+use Rattle.compiler.specs.Inside.Emission.{At, Doing, Ready, Emitted, Emits, rowsPart, addedPart, AtomTask, anAtom, Closes, byParen, byOr, byAny, WalkTask, walks, joins, joined, takes, viaTo, viaFrom, viaNext, Goes, TestTask, tests}
+use Rattle.compiler.specs.Inside.Operators.{ahead, Ahead}
 use Rattle.compiler.specs.declared.Place.{Place}
 use Rattle.compiler.specs.declared.walk.Course.{Course}
 use Rattle.compiler.specs.declared.see.Seen.{Seen}

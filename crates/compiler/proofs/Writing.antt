@@ -17,8 +17,8 @@ use Rattle.table.specs.Image.{twoBytes, field, rowBytes, rowsBytes, flag, editi
 use Rattle.table.proofs.Image.{length-rows, length-field}
 use Rattle.construction.specs.Construction.{withBits, indexIn}
 use Rattle.construction.specs.Compile.{imageRoom}
-use Rattle.bits.specs.Over.{over}
-use Rattle.compiler.specs.Writing.{Sheet, front, acceptBytes, written, rowPlace, Holds, Filled, Room, Writes, Marks, Heads, Counts}
+use Rattle.bits.specs.Inside.Over.{over}
+use Rattle.compiler.specs.Inside.Writing.{Sheet, front, acceptBytes, written, rowPlace, Holds, Filled, Room, Writes, Marks, Heads, Counts}
 use Rattle.construction.proofs.SetBit.{new, length-accept}
 
 regroup : (a b c d : List ℕ) → (a ++ (b ++ c)) ++ d ≡ a ++ (b ++ (c ++ d))

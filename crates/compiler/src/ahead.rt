@@ -2,7 +2,7 @@
 // the operator, since a state may be taken first.
 ghost use mathlib.Core.Path.{_≡_};
 ghost use Prim.Native.Nat.{_+_, _^_, _<_};
-ghost use Rattle.compiler.specs.Operators.{markOf, lookAt, Ahead};
+ghost use Rattle.compiler.specs.Inside.Operators.{markOf, lookAt, Ahead};
 use super::see::see;
 use text::Sign;
 

@@ -1,7 +1,7 @@
 // Blocks and the statements that hold them. A block's emitter and a statement's call each other, as their readers do.
 ghost use Prim.Native.Nat.{_<_};
 ghost use Rattle.text.specs.Token.{w};
-ghost use Rattle.compiler.specs.Emission.{Ready, Emits, HeadedTask, EntryTask, StatementTask, RestTask, BodyTask, ElseTask, ArmsTask};
+ghost use Rattle.compiler.specs.Inside.Emission.{Ready, Emits, HeadedTask, EntryTask, StatementTask, RestTask, BodyTask, ElseTask, ArmsTask};
 use super::Place;
 use super::plain::change;
 use super::plain::jump;

@@ -1,5 +1,5 @@
 // The emitter: the image of a text that is known to be a program without faults.
-ghost use Rattle.compiler.specs.Setting.{Emittable, Images};
+ghost use Rattle.compiler.specs.Inside.Setting.{Emittable, Images};
 use super::blocks::rest;
 use super::settings::begin;
 

@@ -2,8 +2,8 @@
 ghost use Prim.Native.Nat.{_≤_};
 ghost use mathlib.Core.List.{[], _∷_};
 ghost use Rattle.text.specs.Token.{w};
-ghost use Rattle.compiler.specs.Writing.{Room};
-ghost use Rattle.compiler.specs.Emission.{stepRow, Steps, Stops, Ready, Emits, HeadedTask};
+ghost use Rattle.compiler.specs.Inside.Writing.{Room};
+ghost use Rattle.compiler.specs.Inside.Emission.{stepRow, Steps, Stops, Ready, Emits, HeadedTask};
 use super::Place;
 use super::see::number;
 use super::see::past;

@@ -2,7 +2,7 @@
 ghost use mathlib.Core.Path.{_≡_};
 ghost use Rattle.text.specs.First.{part};
 ghost use Rattle.rule.specs.Limits.{valueFrom};
-ghost use Rattle.compiler.specs.Seeing.{Sees, Passes, Digits};
+ghost use Rattle.compiler.specs.Inside.Seeing.{Sees, Passes, Digits};
 use text::Sign;
 use text::Token;
 use text::Word;

@@ -1,5 +1,5 @@
 // The settings, which a program begins with: their letters go into the image first, then the header around them.
-ghost use Rattle.compiler.specs.Setting.{Letters, Lists, Tells, Settings, Settles, Emittable, Begins};
+ghost use Rattle.compiler.specs.Inside.Setting.{Letters, Lists, Tells, Settings, Settles, Emittable, Begins};
 use super::Place;
 use super::see::past;
 use super::see::see;

@@ -7,8 +7,8 @@ ghost use lib.ListN.{length};
 ghost use Rattle.table.specs.Image.{flag};
 ghost use Rattle.construction.specs.Compile.{imageRoom};
 ghost use Rattle.construction.specs.Construction.{testRow, free};
-ghost use Rattle.bits.specs.Over.{over};
-ghost use Rattle.compiler.specs.Writing.{Held, Room, Writes, Marks, Heads, Indexes, Counts};
+ghost use Rattle.bits.specs.Inside.Over.{over};
+ghost use Rattle.compiler.specs.Inside.Writing.{Held, Room, Writes, Marks, Heads, Indexes, Counts};
 
 // The two bytes of a number.
 fn high(n: usize) -> u8

@@ -10,7 +10,7 @@ use Rattle.bits.specs.Byte.{spelling}
 use Rattle.judgement.specs.Verdict.{Verdict, Yes, No, LimitMet, verdictNumber}
 use Rattle.judgement.specs.Judge.{judged, refused}
 use Rattle.construction.specs.declared.Answer.the-variants as Answer
-use Rattle.line.specs.Standing.{Adds}
+use Rattle.line.specs.Inside.Adding.{Adds}
 use Rattle.line.specs.Decimal.{decimal}
 use Rattle.line.specs.CompileLine.{compileLine}
 use Rattle.line.specs.VerdictLine.{meaning, verdictLine, answerWith}

@@ -6,9 +6,10 @@ use mathlib.Core.List.{List, [], _++_, append-assoc}
 use lib.ListN.{length, drop, length-append}
 use Rattle.io.specs.Counts.{Counts}
 use Rattle.io.proofs.Counting.{counts}
-use Rattle.bits.specs.Over.{over}
+use Rattle.bits.specs.Inside.Over.{over}
 use Rattle.bits.proofs.Over.{over-behind}
-use Rattle.line.specs.Standing.{Stands, Adds}
+use Rattle.line.specs.Standing.{Stands}
+use Rattle.line.specs.Inside.Adding.{Adds}
 
 -- no second result fits the promise of a function that writes a line: end and buffer are settled by the buffer as it was and the line
 pub stands-once

@@ -3,3 +3,4 @@ pub mod Standing
 pub mod Decimal
 pub mod CompileLine
 pub mod VerdictLine
+pub mod Inside

@@ -8,8 +8,3 @@ use lib.ListN.{length, drop}
 pub record Stands (old out : List ℕ) (end : ℕ) (bytes : List ℕ) : Type 0 where
   pub is : out ≡ bytes ++ drop end old
   pub ends : end ≡ length bytes
-
--- these come behind whatever stands there up to a place. No caller relies on it.
-pub record Adds (before after : List ℕ) (from to : ℕ) (bytes : List ℕ) : Type 0 where
-  pub adds : (old standing : List ℕ) → Stands old before from standing → Stands old after to (standing ++ bytes)
-  pub ends : to ≡ from + length bytes

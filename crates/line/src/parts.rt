@@ -3,7 +3,7 @@ ghost use Prim.Native.Nat.{_+_, _≤_};
 ghost use mathlib.Core.List.{[], _∷_, _++_};
 ghost use lib.ListN.{length};
 ghost use Rattle.line.specs.Decimal.{decimal};
-ghost use Rattle.line.specs.Standing.{Adds};
+ghost use Rattle.line.specs.Inside.Adding.{Adds};
 
 // These bytes behind those that stand already.
 pub fn add(out: &mut [u8], at: usize, bytes: &[u8]) -> usize

@@ -7,7 +7,8 @@ ghost use Rattle.judgement.specs.Judge.{refused as Judge·refused};
 ghost use Rattle.line.specs.Decimal.{decimal};
 ghost use Rattle.line.specs.VerdictLine.{meaning as VerdictLine·meaning};
 ghost use Rattle.line.specs.VerdictLine.{verdictLine, answerOf};
-ghost use Rattle.line.specs.Standing.{Stands, Adds};
+ghost use Rattle.line.specs.Standing.{Stands};
+ghost use Rattle.line.specs.Inside.Adding.{Adds};
 use crate::parts::add;
 use crate::parts::number;
 

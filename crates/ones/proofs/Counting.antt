@@ -12,7 +12,8 @@ use lib.Bits.{bitOr, or-add-and, and-le-l, and-le-r}
 use lib.Count.{ones, ones-step}
 use Rattle.bits.specs.Bit.{bit}
 use Rattle.bits.specs.Size.{Size}
-use Rattle.ones.specs.Ones.{Ones, sumBelow, OnesBetween}
+use Rattle.ones.specs.Ones.{Ones}
+use Rattle.ones.specs.Inside.Between.{sumBelow, OnesBetween}
 use Rattle.bits.proofs.Bits.{bit-zero-or-one, bit-of-byte, half-bits}
 use Rattle.bits.proofs.Size.{size-once}
 use Rattle.bits.proofs.Change.{bit-inside, bit-take}

@@ -1,2 +1,3 @@
 -- How many bits are set.
 pub mod Ones
+pub mod Inside

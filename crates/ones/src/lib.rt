@@ -3,7 +3,8 @@ ghost use mathlib.Core.Path.{_≡_};
 ghost use mathlib.Core.Bool.{true};
 ghost use Prim.Native.Nat.{_+_, _≤_, min};
 ghost use lib.ListN.{length, take};
-ghost use Rattle.ones.specs.Ones.{Ones, OnesBetween};
+ghost use Rattle.ones.specs.Ones.{Ones};
+ghost use Rattle.ones.specs.Inside.Between.{OnesBetween};
 
 fn at_most(n: usize, most: usize) -> usize
     ensures { λ r. ⌜ r ≡ min n most ⌝ }

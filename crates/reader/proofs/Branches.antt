@@ -11,7 +11,7 @@ use Rattle.text.specs.First.{First}
 use Rattle.text.specs.declared.Token.{Token}
 use Rattle.rule.specs.Inside.Class.{Mark, mark}
 use Rattle.rule.specs.Inside.Machine.{Symbol, block, statements, arms, orAlso, Stack, Totals}
-use Rattle.rule.proofs.Follow.{notFirst}
+use Rattle.rule.proofs.Machine.Follow.{notFirst}
 use Rattle.reader.specs.Inside.Answers.{Front, spot, totals, Comes, Answers, LastArm}
 use Rattle.reader.specs.declared.answers.Counts.{Counts}
 use Rattle.reader.specs.declared.answers.Read.{Read}

@@ -11,7 +11,7 @@ use Rattle.text.proofs.Scan.{scanFrom}
 use Rattle.text.proofs.Tokens.{scanFrom-right, tokens-once}
 use Rattle.rule.specs.Inside.Class.{Class}
 use Rattle.rule.specs.Inside.Machine.{Symbol, Stack, Value, Totals, Move, choices, pick, move}
-use Rattle.rule.proofs.Steps.{run-stops, run-breaks, run-passes}
+use Rattle.rule.proofs.Machine.Steps.{run-stops, run-breaks, run-passes}
 use Rattle.reader.specs.Inside.Answers.{Front, Spot, spot, totals, Comes, Stops, Ready, Answers, Past, Eats}
 use Rattle.reader.specs.declared.answers.Counts.{Counts}
 use Rattle.reader.specs.declared.answers.Refusal.{Refusal}

@@ -23,8 +23,8 @@ use Rattle.text.proofs.Named.{word-is}
 use Rattle.rule.specs.Inside.Class as Class
 use Rattle.rule.specs.Inside.Class.{Mark, spell, Class, mark, other, tokenOf, classify, token-of-class}
 use Rattle.rule.specs.Inside.Machine.{Symbol, exact, distance, number, orElse, orAlso, statements, Stack, Totals, outside, choices, pick, move, run}
-use Rattle.rule.proofs.Steps.{run-stops, run-breaks, run-passes}
-use Rattle.rule.proofs.Follow.{unlike, notFirst, run-no-else, run-no-also}
+use Rattle.rule.proofs.Machine.Steps.{run-stops, run-breaks, run-passes}
+use Rattle.rule.proofs.Machine.Follow.{unlike, notFirst, run-no-else, run-no-also}
 use Rattle.reader.specs.Inside.Answers.{spot, Comes}
 use Rattle.reader.proofs.Arms.{passing, left-passes, valuesLeft, value-left}
 use Rattle.reader.proofs.Missed.{sort}

@@ -17,7 +17,7 @@ use Rattle.judgement.proofs.Reasons.{same-letters, input-single, input-none, in
 use Rattle.refusing.specs.declared.Asked.{Asked}
 use Rattle.refusing.specs.declared.Asked.the-variants.{Admitted, Refused}
 use Rattle.refusing.specs.Asking.{Asks}
-use Rattle.refusing.specs.Inside.{FirstOther}
+use Rattle.refusing.specs.Inside.Letters.{FirstOther}
 
 -- a check that gives 1 found the image of a table, which is what its fields say
 checked-as : (image : List ℕ) (a : Checked) → CheckedRight image a → checkedNumber a ≡ 1 → IsImage (tableOf image) image

@@ -4,7 +4,7 @@ ghost use mathlib.Core.Path.{_≡_};
 ghost use lib.ListN.{length};
 ghost use Rattle.table.specs.Fields.{lettersOf, tableOf, Tells};
 ghost use Rattle.refusing.specs.Asking.{Asks};
-ghost use Rattle.refusing.specs.Inside.{FirstOther};
+ghost use Rattle.refusing.specs.Inside.Letters.{FirstOther};
 
 // Admitted, or refused with a number and its place.
 pub enum Asked {

@@ -9,7 +9,7 @@ use Rattle.text.specs.Tokens.{_at_, Rising, empty, single, rises}
 use Rattle.rule.specs.Tree.{Program}
 use Rattle.rule.specs.Grammar.{IsProgram}
 use Rattle.rule.specs.Limits.{Fault, fault, faults}
-use Rattle.rule.proofs.Steps.{Ts, State, begin, step, eat, _>>=_, View, passes, breaks, view}
+use Rattle.rule.proofs.Machine.Steps.{Ts, State, begin, step, eat, _>>=_, View, passes, breaks, view}
 use Rattle.rule.proofs.Outcomes.{final, eats-program}
 
 -- the places of faults rise from this one on

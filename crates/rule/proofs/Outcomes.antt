@@ -28,7 +28,7 @@ use Rattle.rule.specs.Limits.{Fault, fault, faults}
 use Rattle.rule.specs.Faults.{GoesOn, Clean, Breaks, FirstFault, noToken, notHere, early, limit, Reads}
 use Rattle.rule.specs.Counts.{programStates, programRows}
 use Rattle.rule.specs.Inside.Machine.{Stack, Values, program, start, atEnd, Outcome, taken, refused, run, outcome}
-use Rattle.rule.proofs.Steps.{
+use Rattle.rule.proofs.Machine.Steps.{
   Ts,
   State,
   state,
@@ -47,14 +47,14 @@ use Rattle.rule.proofs.Steps.{
   grown,
   eat-adds,
 }
-use Rattle.rule.proofs.Complete.{program-eats, builtOn, built, program-once}
-use Rattle.rule.proofs.Tally.{program-is}
-use Rattle.rule.proofs.Sound.{Ended, eaten-program}
+use Rattle.rule.proofs.Machine.Complete.{program-eats, builtOn, built, program-once}
+use Rattle.rule.proofs.Machine.Tally.{program-is}
+use Rattle.rule.proofs.Machine.Sound.{Ended, eaten-program}
 use Rattle.text.proofs.Written.{laid}
 use Rattle.rule.proofs.Places.{past, rising-more, rising-apart, rising-front}
-use Rattle.rule.proofs.Viable.{shortAll, completes}
-use Rattle.rule.proofs.Trace as Trace
-use Rattle.rule.proofs.Trace.{Passed, Trace, eat-one, passed-runs, passed-end, trace}
+use Rattle.rule.proofs.Machine.Viable.{shortAll, completes}
+use Rattle.rule.proofs.Machine.Trace as Trace
+use Rattle.rule.proofs.Machine.Trace.{Passed, Trace, eat-one, passed-runs, passed-end, trace}
 
 -- where the machine is behind a whole program
 abbrev pub final : Program → State

@@ -18,9 +18,9 @@ use Rattle.rule.specs.Faults.{GoesOn, Clean, Breaks}
 use Rattle.rule.specs.Inside.Class.{Mark, spell}
 use Rattle.rule.specs.Inside.Machine as Machine
 use Rattle.rule.specs.Inside.Machine.{Symbol, Stack}
-use Rattle.rule.proofs.Steps.{Ts, State, begin, eat, grown}
-use Rattle.rule.proofs.Sound.{Ended, eaten-program}
-use Rattle.rule.proofs.Viable.{short, shortAll, completes}
+use Rattle.rule.proofs.Machine.Steps.{Ts, State, begin, eat, grown}
+use Rattle.rule.proofs.Machine.Sound.{Ended, eaten-program}
+use Rattle.rule.proofs.Machine.Viable.{short, shortAll, completes}
 use Rattle.rule.proofs.Outcomes.{eat-then, goes-taken, goes-adds, not-within, clean-passed}
 
 -- another text: it begins with the same bytes up to the last of these tokens, and its tokens are these and then the program's others

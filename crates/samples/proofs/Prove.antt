@@ -23,8 +23,8 @@ use Rattle.rule.specs.Grammar.{IsProgram}
 use Rattle.rule.specs.Limits.{faults}
 use Rattle.rule.specs.Faults.{FirstFault, Reads}
 use Rattle.rule.specs.Inside.Machine.{Outcome, taken, refused, outcome}
-use Rattle.rule.proofs.Steps.{begin, eat}
-use Rattle.rule.proofs.Complete.{built}
+use Rattle.rule.proofs.Machine.Steps.{begin, eat}
+use Rattle.rule.proofs.Machine.Complete.{built}
 use Rattle.rule.proofs.Outcomes.{built-program, refused-fault}
 use Rattle.construction.specs.Construction.{construct}
 use Rattle.construction.specs.declared.Answer.the-variants as Answer

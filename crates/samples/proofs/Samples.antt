@@ -5,7 +5,7 @@ use Rattle.cells.specs.Cell.{symbolOn, moved}
 use Rattle.machine.specs.Step.{symbolFits, counterFits, changed, rowFits}
 use Rattle.text.proofs.Scan.{scan}
 use Rattle.rule.specs.Inside.Machine.{outcome}
-use Rattle.rule.proofs.Steps.{eat}
+use Rattle.rule.proofs.Machine.Steps.{eat}
 use Rattle.rule.specs.Tree.{letterBytes}
 use Rattle.rule.specs.Limits.{
   faults,

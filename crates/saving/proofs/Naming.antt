@@ -7,11 +7,12 @@ use mathlib.Core.List.{List, _++_}
 use lib.Dec.{T, ltb, ltb→lt}
 use lib.ListN.{length, take, drop, set, length-append, length-drop, length-set}
 use lib.Seq.{length-take-le, take-all, take-at, take-set-le, getD-set-same, set-set}
-use Rattle.bits.specs.Over.{over}
+use Rattle.bits.specs.Inside.Over.{over}
 use Rattle.bits.proofs.Over.{over-behind, put-over}
 use Rattle.bits.proofs.Tests.{and-left, and-right}
 use Rattle.libc.specs.Io.{Ended}
-use Rattle.saving.specs.Names.{nameable, Named, Tried}
+use Rattle.saving.specs.Names.{nameable}
+use Rattle.saving.specs.Inside.Naming.{Named, Tried}
 
 -- a name's bounds, from the test
 pub nameable-bounds : (n : ℕ) → nameable n ≡ true → (0 < n) × (n < 4091)

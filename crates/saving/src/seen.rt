@@ -1,7 +1,7 @@
 // What the system knows of a file: what it is, and which one it is. The two functions that lend a struct to a call are proved by a
 // walk by hand, so they do nothing else.
 ghost use mathlib.Core.Path.{_≡_};
-ghost use Rattle.saving.specs.Seen.{standsOf, sameFile};
+ghost use Rattle.saving.specs.Inside.Seen.{standsOf, sameFile};
 ghost use Rattle.libc.specs.Io.{Ended};
 use libc::PATH_MAX;
 use libc::types::stat;

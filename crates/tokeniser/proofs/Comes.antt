@@ -9,7 +9,7 @@ use Rattle.text.specs.Token as Spec
 use Rattle.text.specs.Tokens.{Placed, _at_, Ending, ends, broken, Tokens}
 use Rattle.text.specs.Tokens as Of
 use Rattle.text.specs.First.{Next, Begins, First}
-use Rattle.tokeniser.specs.Inside.{Skips, Steps}
+use Rattle.tokeniser.specs.Inside.Tokenising.{Skips, Steps}
 use Rattle.tokeniser.specs.declared.steps.Step.{Step}
 use Rattle.tokeniser.specs.declared.steps.Step.the-variants as Step
 use Rattle.text.specs.declared.Token.{Token}

@@ -15,7 +15,7 @@ use Rattle.bits.proofs.Tests.{or-left, or-right, every}
 use Rattle.bits.specs.Byte.{isDigit, isAlphabetic, isLetter}
 use Rattle.text.specs.Token.{beginsWord, inWord, quote, signs}
 use Rattle.text.specs.Tokens.{isWhite, slash}
-use Rattle.tokeniser.specs.Inside.{begins, sorted, kindOf}
+use Rattle.tokeniser.specs.Inside.Tokenising.{begins, sorted, kindOf}
 use Rattle.tokeniser.specs.declared.kinds.Kind.{Kind}
 use Rattle.tokeniser.specs.declared.kinds.Kind.the-variants.{Digit, Alphabetic, Underscore, Quote, White, Slash, Sign, Other}
 use Rattle.tokeniser.proofs.kinds.Kind.{the-type}

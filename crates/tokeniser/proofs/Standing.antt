@@ -14,7 +14,7 @@ use Rattle.text.specs.Token.{beginsWord, inWord, quote, signs}
 use Rattle.text.specs.Token as Spec
 use Rattle.text.specs.Tokens.{isWhite, slash, Blank, Placed, Ending}
 use Rattle.text.specs.First.{part, IsWord, written, Next, Begins, First}
-use Rattle.tokeniser.specs.Inside.{IsSign, kindOf, inComment, Run, over, stop, on, Skips}
+use Rattle.tokeniser.specs.Inside.Tokenising.{IsSign, kindOf, inComment, Run, over, stop, on, Skips}
 use Rattle.text.specs.declared.Token.{Token}
 use Rattle.text.specs.declared.Token.the-variants as Token
 use Rattle.text.specs.declared.Word.{Word}

@@ -1,7 +1,7 @@
 // Where a run of bytes ends that goes on from a place: the bytes of a word, of a number, of a comment.
 ghost use Rattle.bits.specs.Byte.{isDigit};
 ghost use Rattle.text.specs.Token.{inWord};
-ghost use Rattle.tokeniser.specs.Inside.{inComment, Run};
+ghost use Rattle.tokeniser.specs.Inside.Tokenising.{inComment, Run};
 use super::kinds::in_word;
 use super::kinds::is_digit;
 

@@ -3,7 +3,7 @@
 ghost use mathlib.Core.Path.{_≡_};
 ghost use Rattle.bits.specs.Byte.{isDigit, isLetter};
 ghost use Rattle.text.specs.Token.{inWord};
-ghost use Rattle.tokeniser.specs.Inside.{kindOf};
+ghost use Rattle.tokeniser.specs.Inside.Tokenising.{kindOf};
 
 pub enum Kind {
     Digit,

@@ -1,6 +1,6 @@
 // Which sign one byte is, and which two bytes are.
 ghost use mathlib.Core.List.{[], _∷_};
-ghost use Rattle.tokeniser.specs.Inside.{IsSign};
+ghost use Rattle.tokeniser.specs.Inside.Tokenising.{IsSign};
 use text::Sign;
 
 pub enum Found {

@@ -7,7 +7,7 @@ ghost use Rattle.bits.specs.Byte.{isDigit};
 ghost use Rattle.text.specs.Token.{beginsWord, quote};
 ghost use Rattle.text.specs.Tokens.{slash};
 ghost use Rattle.text.specs.First.{First};
-ghost use Rattle.tokeniser.specs.Inside.{kindOf, Steps};
+ghost use Rattle.tokeniser.specs.Inside.Tokenising.{kindOf, Steps};
 ghost use Rattle.tokeniser.specs.declared.kinds.Kind.the-variants as Kind;
 use super::ends::comment_end;
 use super::ends::number_end;

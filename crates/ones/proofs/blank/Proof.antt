@@ -3,7 +3,7 @@ use Prim.Native.Nat.{_≤_, _-_}
 use native.Mathlib.Omega.{arith}
 use mathlib.Core.Path.{_≡_}
 use borrow.Author.Tests.{eqb-true}
-use Rattle.ones.specs.Ones.{OnesBetween}
+use Rattle.ones.specs.Inside.Between.{OnesBetween}
 use Rattle.ones.proofs.Counting.{ones-none, ones-to, blank-more}
 use Rattle.ones.proofs.blank.Statement.{statement}
 use Rattle.ones.proofs.blank.Tie as tie

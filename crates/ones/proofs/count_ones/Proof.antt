@@ -2,7 +2,7 @@
 use Prim.Native.Nat.{_≤_, _-_}
 use native.Mathlib.Omega.{arith}
 use borrow.Author.Needs.{needs}
-use Rattle.ones.specs.Ones.{OnesBetween}
+use Rattle.ones.specs.Inside.Between.{OnesBetween}
 use Rattle.ones.proofs.Counting.{ones-none, ones-both, ones-at-most, ones-all}
 use Rattle.ones.proofs.count_ones.Statement.{statement}
 use Rattle.ones.proofs.count_ones.Tie as tie

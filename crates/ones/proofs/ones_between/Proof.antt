@@ -3,7 +3,7 @@ use Prim.Native.Nat.{_≤_, _+_, _-_}
 use native.Mathlib.Omega.{arith}
 use lib.ListN.{getD}
 use lib.Count.{ones}
-use Rattle.ones.specs.Ones.{OnesBetween}
+use Rattle.ones.specs.Inside.Between.{OnesBetween}
 use Rattle.ones.proofs.Counting.{ones-none, ones-more, ones-at-most, ones-to}
 use Rattle.ones.proofs.ones_between.Statement.{statement}
 use Rattle.ones.proofs.ones_between.Tie as tie

@@ -5,7 +5,7 @@ use mathlib.Core.Bool.{Bool}
 use mathlib.Core.List.{[], _∷_}
 use borrow.Author.Needs.{needs}
 use Rattle.text.specs.declared.Sign.{Sign}
-use Rattle.compiler.specs.Operators.{Mark, lookAt, markOf}
+use Rattle.compiler.specs.Inside.Operators.{Mark, lookAt, markOf}
 use Rattle.compiler.specs.declared.ahead.Looked.{Looked}
 use Rattle.compiler.proofs.Tags.{signTags}
 use Rattle.compiler.proofs.Operators.{

@@ -5,7 +5,7 @@ use mathlib.Core.Path.{refl, sym, _∙_}
 use mathlib.Core.List.{List}
 use borrow.Author.Needs.{needs}
 use Rattle.text.specs.Tokens.{Placed}
-use Rattle.compiler.specs.Seeing.{Here}
+use Rattle.compiler.specs.Inside.Seeing.{Here}
 use Rattle.compiler.proofs.Operators.{Looking, looked-out, looked-answer, looked-on, looked-deeper}
 use Rattle.compiler.proofs.ahead.operator_ahead.Statement.{statement}
 use Rattle.compiler.proofs.ahead.operator_ahead.Tie as tie

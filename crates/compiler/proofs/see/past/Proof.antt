@@ -6,7 +6,7 @@ use mathlib.Core.List.{List}
 use lib.ListN.{length, drop, length-drop}
 use Rattle.text.specs.Tokens.{Placed}
 use borrow.Author.Needs.{needs}
-use Rattle.compiler.specs.Seeing.{Here, Reaches}
+use Rattle.compiler.specs.Inside.Seeing.{Here, Reaches}
 use Rattle.compiler.proofs.Seeing.{reach-none, reach-more, tail-behind}
 use Rattle.compiler.proofs.see.past.Statement.{statement}
 use Rattle.compiler.proofs.see.past.Tie as tie

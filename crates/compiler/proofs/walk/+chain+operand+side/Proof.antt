@@ -7,8 +7,8 @@ use mathlib.Core.Bool.{Bool, true}
 use lib.ListN.{length}
 use borrow.Author.Needs.{needs}
 use Rattle.text.specs.declared.Sign.the-variants as Sign
-use Rattle.compiler.specs.Operators.{Ahead}
-use Rattle.compiler.specs.Emission.{takes, Goes}
+use Rattle.compiler.specs.Inside.Operators.{Ahead}
+use Rattle.compiler.specs.Inside.Emission.{takes, Goes}
 use Rattle.compiler.proofs.Emission.{ready, emitted-past, past-onward}
 use Rattle.compiler.proofs.Walking.{
   rank,

@@ -1,7 +1,7 @@
 -- `reader::atoms::zero_at` meets its contract.
 use native.Mathlib.Omega.{arith}
 use mathlib.Core.Path.{refl, sym, _∙_}
-use Rattle.rule.proofs.Digits.{number-digits}
+use Rattle.rule.proofs.Machine.Digits.{number-digits}
 use Rattle.reader.proofs.Front.{front-number}
 use Rattle.reader.specs.Atom.{aNumber}
 use Rattle.reader.proofs.Tested.{test-refuses, test-breaks, zero-found}

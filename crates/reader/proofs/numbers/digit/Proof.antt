@@ -1,7 +1,7 @@
 -- `reader::numbers::digit` meets its contract.
 use native.Mathlib.Omega.{arith}
 use mathlib.Core.Path.{refl}
-use Rattle.rule.proofs.Digits.{digit-bounds}
+use Rattle.rule.proofs.Machine.Digits.{digit-bounds}
 use borrow.Author.Needs.{needs}
 use Rattle.reader.proofs.numbers.digit.Statement.{statement}
 use Rattle.reader.proofs.numbers.digit.Tie as tie

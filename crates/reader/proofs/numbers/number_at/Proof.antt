@@ -1,7 +1,7 @@
 -- `reader::numbers::number_at` meets its contract.
 use native.Mathlib.Omega.{arith}
 use mathlib.Core.Path.{refl, sym, _∙_}
-use Rattle.rule.proofs.Digits.{number-digits}
+use Rattle.rule.proofs.Machine.Digits.{number-digits}
 use Rattle.reader.proofs.Front.{front-number}
 use Rattle.reader.proofs.Moves.{done, step, break, ready-on}
 use Rattle.reader.proofs.Missed.{refuses}

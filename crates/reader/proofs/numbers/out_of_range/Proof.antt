@@ -1,6 +1,6 @@
 -- `reader::numbers::out_of_range` meets its contract, by how many digits there are.
 use native.Mathlib.Omega.{arith}
-use Rattle.rule.proofs.Digits.{digit-at, one-digit, many-digits, leading-zero, two-digits}
+use Rattle.rule.proofs.Machine.Digits.{digit-at, one-digit, many-digits, leading-zero, two-digits}
 use borrow.Author.Needs.{needs}
 use Rattle.reader.proofs.numbers.out_of_range.Statement.{statement}
 use Rattle.reader.proofs.numbers.out_of_range.Tie as tie

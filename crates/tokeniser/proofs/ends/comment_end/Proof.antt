@@ -7,7 +7,7 @@ use lib.ListN.{length}
 use borrow.Author.Needs.{needs}
 use borrow.Author.Tests.{eq-eqb, ne-eqb}
 use Rattle.text.specs.Tokens.{lineFeed}
-use Rattle.tokeniser.specs.Inside.{inComment, Run, over, stop, on}
+use Rattle.tokeniser.specs.Inside.Tokenising.{inComment, Run, over, stop, on}
 use Rattle.tokeniser.proofs.ends.comment_end.Statement.{statement}
 use Rattle.tokeniser.proofs.ends.comment_end.Tie as tie
 

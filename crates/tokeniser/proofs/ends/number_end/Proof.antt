@@ -6,7 +6,7 @@ use lib.ListN.{length}
 use borrow.Author.Needs.{needs}
 use borrow.Author.Tests.{not-true, not-false}
 use Rattle.bits.specs.Byte.{isDigit}
-use Rattle.tokeniser.specs.Inside.{Run, over, stop, on}
+use Rattle.tokeniser.specs.Inside.Tokenising.{Run, over, stop, on}
 use Rattle.tokeniser.proofs.ends.number_end.Statement.{statement}
 use Rattle.tokeniser.proofs.ends.number_end.Tie as tie
 

@@ -6,7 +6,7 @@ use lib.ListN.{length}
 use borrow.Author.Needs.{needs}
 use borrow.Author.Tests.{not-true, not-false}
 use Rattle.text.specs.Token.{inWord}
-use Rattle.tokeniser.specs.Inside.{Run, over, stop, on}
+use Rattle.tokeniser.specs.Inside.Tokenising.{Run, over, stop, on}
 use Rattle.tokeniser.proofs.ends.word_end.Statement.{statement}
 use Rattle.tokeniser.proofs.ends.word_end.Tie as tie
 

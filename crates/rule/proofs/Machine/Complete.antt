@@ -33,9 +33,9 @@ use Rattle.rule.specs.Grammar.{
 use Rattle.rule.specs.Inside.Class.{Mark, classify}
 use Rattle.rule.specs.Inside.Machine as Machine
 use Rattle.rule.specs.Inside.Machine.{Symbol, Stack, Value, Values, operand, tail, block, statements, orElse, arms, orAlso}
-use Rattle.rule.proofs.Steps.{Ts, Is, is, Far, State, state, begin, eat}
-use Rattle.rule.proofs.Follow.{unlike, eat-no-else, eat-no-also}
-use Rattle.rule.proofs.Far.{
+use Rattle.rule.proofs.Machine.Steps.{Ts, Is, is, Far, State, state, begin, eat}
+use Rattle.rule.proofs.Machine.Follow.{unlike, eat-no-else, eat-no-also}
+use Rattle.rule.proofs.Machine.Far.{
   counts,
   notes,
   soughtFar,

@@ -12,10 +12,10 @@ use Rattle.rule.specs.Grammar.{Ts, IsLetters, IsDecrement, IsSettings}
 use Rattle.rule.specs.Faults.{Reads}
 use Rattle.construction.specs.Construction.{programPart, construct}
 use Rattle.construction.specs.Compile.{imageRoom}
-use Rattle.bits.specs.Over.{over}
-use Rattle.compiler.specs.Writing.{Sheet}
-use Rattle.compiler.specs.Seeing.{Here}
-use Rattle.compiler.specs.Emission.{Doing, RestTask}
+use Rattle.bits.specs.Inside.Over.{over}
+use Rattle.compiler.specs.Inside.Writing.{Sheet}
+use Rattle.compiler.specs.Inside.Seeing.{Here}
+use Rattle.compiler.specs.Inside.Emission.{Doing, RestTask}
 use Rattle.compiler.specs.declared.Place.{Place}
 use Rattle.compiler.specs.declared.settings.Listed.{Listed}
 use Rattle.compiler.specs.declared.settings.Settled.{Settled}

@@ -55,7 +55,7 @@ use Rattle.rule.specs.Tree.{
 }
 use Rattle.rule.specs.Limits.{isIn}
 use Rattle.rule.specs.Inside.Machine.{counted, withLetter, outside, excess}
-use Rattle.rule.proofs.Steps.{Far, noted}
+use Rattle.rule.proofs.Machine.Steps.{Far, noted}
 
 -- so many states and rows more
 abbrev pub counts : ℕ → ℕ → Far → Far

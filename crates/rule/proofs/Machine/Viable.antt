@@ -11,9 +11,9 @@ use Rattle.rule.specs.Tree.{Program}
 use Rattle.rule.specs.Inside.Class.{Mark, spell, classify, class-of-mark, same-self}
 use Rattle.rule.specs.Inside.Machine as Machine
 use Rattle.rule.specs.Inside.Machine.{Symbol, Stack, Values, Move, on, pick}
-use Rattle.rule.proofs.Steps.{Far, state, eat}
+use Rattle.rule.proofs.Machine.Steps.{Far, state, eat}
 use Rattle.text.proofs.Written.{laid}
-use Rattle.rule.proofs.Sound.{Ended}
+use Rattle.rule.proofs.Machine.Sound.{Ended}
 
 -- the digit 0 and the letter a
 abbrev pub zeroToken : Token

@@ -26,8 +26,8 @@ use Rattle.rule.specs.Counts.{
   programRows,
 }
 use Rattle.rule.specs.Inside.Machine.{start, outside, excess}
-use Rattle.rule.proofs.Steps.{Far, noted}
-use Rattle.rule.proofs.Far.{
+use Rattle.rule.proofs.Machine.Steps.{Far, noted}
+use Rattle.rule.proofs.Machine.Far.{
   counts,
   notes,
   numberFar,

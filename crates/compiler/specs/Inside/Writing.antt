@@ -4,7 +4,7 @@ use mathlib.Core.Path.{_≡_}
 use mathlib.Core.Bool.{Bool}
 use mathlib.Core.List.{List, [], _∷_, _++_}
 use lib.ListN.{length, drop, replicate}
-use Rattle.bits.specs.Over.{over}
+use Rattle.bits.specs.Inside.Over.{over}
 use Rattle.table.specs.Table.{Row}
 use Rattle.table.specs.Image.{twoBytes, field, rowsBytes, flag, edition}
 use Rattle.construction.specs.Construction.{withBits, indexIn}

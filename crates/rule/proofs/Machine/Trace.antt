@@ -7,7 +7,7 @@ use Rattle.text.specs.Token.{Token}
 use Rattle.text.specs.Tokens.{Placed, _at_, Ending, ends, broken}
 use Rattle.rule.specs.Limits.{Fault, fault}
 use Rattle.rule.specs.Inside.Machine.{Stack, atEnd, Outcome, taken, refused, run}
-use Rattle.rule.proofs.Steps.{
+use Rattle.rule.proofs.Machine.Steps.{
   Ts,
   State,
   begin,

@@ -16,7 +16,7 @@ use Rattle.rule.specs.Grammar.{IsSought, IsAtom, loosest, middle, tighte
 use Rattle.rule.specs.Inside.Class.{Mark, spell, Class, mark, number, letter, other, tokenOf, classify, token-of-class}
 use Rattle.rule.specs.Inside.Machine as Machine
 use Rattle.rule.specs.Inside.Machine.{Symbol, Stack, Value, Values, Totals, Move, Choice, on, onNumber, onLetter, along, alongChoice, also, statementChoices, choices, take, pick, move}
-use Rattle.rule.proofs.Steps.{Ts, Is, is, Far, State, state, begin, follow, eat, _>>=_}
+use Rattle.rule.proofs.Machine.Steps.{Ts, Is, is, Far, State, state, begin, follow, eat, _>>=_}
 
 data IsNumber : Ts → Number → Ts → Type 0 where
   isNumber : {n : List ℕ} {p : ℕ} {ts : Ts} → IsNumber ((Token.number n at p) ∷ ts) (record { digits = n; place = p }) ts

@@ -37,8 +37,8 @@ use Rattle.construction.specs.Construction.{
   statementsPart,
   armsPart,
 }
-use Rattle.compiler.specs.Writing.{Sheet, Filled, Writes}
-use Rattle.compiler.specs.Seeing.{Here, Passes}
+use Rattle.compiler.specs.Inside.Writing.{Sheet, Filled, Writes}
+use Rattle.compiler.specs.Inside.Seeing.{Here, Passes}
 use Rattle.compiler.specs.declared.Place.{Place}
 use Rattle.compiler.specs.declared.walk.Course.{Course}
 

@@ -9,7 +9,7 @@ use Rattle.reader.specs.declared.atoms.Symbol.the-variants as Symbol
 use Rattle.reader.specs.declared.atoms.Atom.{Atom}
 use Rattle.reader.specs.declared.atoms.Atom.the-variants as Atom
 use Rattle.construction.specs.Construction.{leftMark, rightMark, anySymbol, testRow, indexIn, allSymbols, without, symbolRows}
-use Rattle.compiler.specs.Writing.{Sheet, Holds}
+use Rattle.compiler.specs.Inside.Writing.{Sheet, Holds}
 
 -- a test of the counter walked as `==`, or as `!=`
 abbrev pub counterRows : Bool → ℕ → ℕ → List Row

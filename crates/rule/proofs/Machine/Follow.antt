@@ -33,7 +33,7 @@ use Rattle.rule.specs.Inside.Machine.{
   move,
   run,
 }
-use Rattle.rule.proofs.Steps.{Ts, Far, state, follow, eat, _>>=_, run-stops, run-breaks, run-passes}
+use Rattle.rule.proofs.Machine.Steps.{Ts, Far, state, follow, eat, _>>=_, run-stops, run-breaks, run-passes}
 
 -- a token of this class is not the mark
 abbrev pub unlike : Mark → Class → Bool
