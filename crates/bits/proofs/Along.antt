@@ -10,12 +10,12 @@ use Rattle.bits.specs.Size.{Size}
 
 module _ {A B : Type 0} (f : A → B) where
   -- what stands in a mapped list comes from something in the list
-  pub record Comes (y : B) (l : List A) : Type 0 where
+  pub record ComesFrom (y : B) (l : List A) : Type 0 where
     pub source : A
     pub member : List·Memᴰ source l
     pub image : f source ≡ y
 
-  comes : {y : B} (l : List A) → List·Memᴰ y (map f l) → Comes y l
+  comes : {y : B} (l : List A) → List·Memᴰ y (map f l) → ComesFrom y l
   comes (x ∷ l) (List·Memᴰ·head e) = record { source = x; member = List·Memᴰ·head refl; image = sym e }
   comes (x ∷ l) (List·Memᴰ·tail m) =
       let rest = comes l m in

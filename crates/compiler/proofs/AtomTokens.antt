@@ -16,10 +16,10 @@ use Rattle.text.specs.declared.Token.{Token}
 use Rattle.text.specs.declared.Token.the-variants as Token
 use Rattle.text.proofs.Once.{comes}
 use Rattle.rule.specs.Tree as Tree
-use Rattle.rule.specs.Tree.{Sought}
+use Rattle.rule.specs.Tree.{SymbolName}
 use Rattle.rule.specs.Limits.{valueFrom, inForm}
 use Rattle.rule.specs.Grammar as Grammar
-use Rattle.rule.specs.Grammar.{Ts, IsSought, IsAtom}
+use Rattle.rule.specs.Grammar.{Ts, IsSymbolName, IsAtom}
 use Rattle.rule.proofs.Within.{AtomWithin}
 use Rattle.reader.specs.Atom.{
   Next,
@@ -208,10 +208,10 @@ further : {text : List ℕ} {from q o : ℕ} {ts vs us : Ts} {a : Atom} {r : Ato
     → FoundAt text from us a r
 further b c f = record { end = f .end; is = f .is; onward = omega (arith, b .onward, c .onward, f .onward); here = f .here }
 
-object-found : {text : List ℕ} {from : ℕ} {ts us : Ts} {x : Sought} {r : AtomRead} (equal : Bool)
+object-found : {text : List ℕ} {from : ℕ} {ts us : Ts} {x : SymbolName} {r : AtomRead} (equal : Bool)
     → Next text from (λ t. ObjectSays equal t r)
     → Here text from ts
-    → IsSought ts x us
+    → IsSymbolName ts x us
     → FoundAt text from us (Atom.Read equal (symbolOf x)) r
 object-found equal n h Grammar.aLetter =
     let (q, t) = told-letter n h in
@@ -278,7 +278,7 @@ atom-found alphabet x h Grammar.counterIsNot within =
     further (t .behind) (u .behind) (number-found false (differs-says (NumeralSays _) (u .says)) (u .behind .here) within)
 
 -- the rows by the answer are the atom's
-code-is : (alphabet : List ℕ) (x : Sought) → symbolCode alphabet x ≡ codeOf alphabet (symbolOf x)
+code-is : (alphabet : List ℕ) (x : SymbolName) → symbolCode alphabet x ≡ codeOf alphabet (symbolOf x)
 unfolding symbolCode
 code-is alphabet (Tree.letter l) = refl
 code-is alphabet Tree.lend = refl

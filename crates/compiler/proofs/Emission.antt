@@ -9,7 +9,7 @@ use Rattle.table.specs.Table.{Row}
 use Rattle.rule.specs.Grammar.{Ts}
 use Rattle.construction.specs.Construction.{Part}
 use Rattle.compiler.specs.Inside.Writing.{Sheet, Held, Filled, Room, Writes}
-use Rattle.compiler.specs.Inside.Seeing.{Here, Reaches, Passes}
+use Rattle.compiler.specs.Inside.Seeing.{Here, Reaches, GoesPast}
 use Rattle.compiler.specs.Inside.Emission.{At, Task, Doing, Ready, Emitted, rowsPart}
 use Rattle.compiler.specs.declared.Place.{Place}
 
@@ -83,20 +83,20 @@ at-moved further stands here =
 -- behind one token more
 pub emitted-past : {text out : List ℕ} {place : Place} {h : Sheet} {accepting : List ℕ} {rows : List Row} {t : Placed} {us : Ts} {part : Part} {end : ℕ}
     → Emitted text out place h accepting rows (t ∷ us) part
-    → Passes text (place .at) 1 end
+    → GoesPast text (place .at) 1 end
     → Emitted text out (record { at = end; state = place .state; next = place .next; row = place .row }) h accepting rows us part
 emitted-past {end = end} e pass =
     record { stands = at-moved end (e .stands) (pass .behind _ (e .stands .here) (omega arith) .here) }
 
 pub past-onward : {text out : List ℕ} {place : Place} {h : Sheet} {accepting : List ℕ} {rows : List Row} {t : Placed} {us : Ts} {part : Part} {end : ℕ}
     → Emitted text out place h accepting rows (t ∷ us) part
-    → Passes text (place .at) 1 end
+    → GoesPast text (place .at) 1 end
     → place .at ≤ end
 past-onward e pass = omega (arith, pass .behind _ (e .stands .here) (omega arith) .onward)
 
 -- past a first token
 module _ {text out : List ℕ} {place : Place} {h : Sheet} {accepting : List ℕ} {rows : List Row} {p next : ℕ} {ts : Ts} {t : Placed} {us : Ts} {end : ℕ}
-    (stands : At text out place h accepting rows p next ts) (is : ts ≡ t ∷ us) (pass : Passes text (place .at) 1 end) where
+    (stands : At text out place h accepting rows p next ts) (is : ts ≡ t ∷ us) (pass : GoesPast text (place .at) 1 end) where
   reaches : Reaches text (place .at) 1 end us
   reaches = pass .behind (t ∷ us) (subst (Here text (place .at)) is (stands .here)) (omega arith)
 

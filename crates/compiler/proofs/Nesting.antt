@@ -23,7 +23,7 @@ use Rattle.rule.proofs.Invert as Invert
 use Rattle.rule.proofs.Within.{StatementWithin, RestWithin}
 use Rattle.construction.specs.Construction.{free, Part, test, ifPart, loopPart, andThen, statementPart, restPart, statementsPart}
 use Rattle.compiler.specs.Inside.Writing.{Sheet, Filled, Room, Writes}
-use Rattle.compiler.specs.Inside.Seeing.{Here, Behind, SeenAs, Sees, Passes}
+use Rattle.compiler.specs.Inside.Seeing.{Here, Behind, SeenAs, Sees, GoesPast}
 use Rattle.compiler.specs.Inside.Emission.{At, Task, Doing, Emitted, rowsPart, TestTask, tests, EntryTask, chooses, asks, Follows, HeadedTask, RestTask, theRest, closedPart, BodyTask, aBody, ElseTask, anElse}
 use Rattle.compiler.specs.declared.Place.{Place}
 use Rattle.compiler.specs.declared.see.Seen.{Seen}
@@ -187,7 +187,7 @@ body-of {alphabet = alphabet} {p = p} {next = next} (aBody {b = b} (block d) wit
       grows = omega (arith, statements-next b alphabet p next);
     }
 
-module _ {text out : List ℕ} {place : Place} {to start : ℕ} (enters : Passes text (place .at) 1 start)
+module _ {text out : List ℕ} {place : Place} {to start : ℕ} (enters : GoesPast text (place .at) 1 start)
     {h : Sheet} {accepting : List ℕ} {rows : List Row} {p next : ℕ} {ts us : Ts} {part : Part}
     (d : Doing (BodyTask to) text out place h accepting rows p next ts us part) where
   abbrev body-here : BodyOf to (h .alphabet) p next ts us part

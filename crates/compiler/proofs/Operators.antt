@@ -22,7 +22,7 @@ use Rattle.rule.specs.Tree as Tree
 use Rattle.rule.specs.Tree.{Condition}
 use Rattle.rule.specs.Grammar.{
   Ts,
-  IsSought,
+  IsSymbolName,
   aLetter,
   lend,
   rend,
@@ -46,7 +46,7 @@ use Rattle.rule.specs.Grammar.{
 }
 use Rattle.compiler.specs.Inside.Seeing as Seen
 use Rattle.compiler.specs.Inside.Seeing.{Here, SeenAs}
-use Rattle.compiler.specs.Inside.Operators.{Mark, opening, closing, and, or, other, lookAt, markOf, marked, onward, ahead}
+use Rattle.compiler.specs.Inside.Operators.{Bracketing, opening, closing, and, or, other, lookAt, markOf, marked, onward, ahead}
 use Rattle.compiler.specs.Inside.Emission.{Closes, byParen, byOr, joins, joined}
 use Rattle.compiler.specs.declared.ahead.Looked.{Looked}
 use Rattle.compiler.specs.declared.ahead.Looked.the-variants.{Answer, On}
@@ -176,7 +176,7 @@ unfolding ahead lookAt
 past-or sought zero p ts t = absurd t
 past-or sought (suc depth) p ts t = refl
 
-past-sought : {ts us : Ts} {x : Tree.Sought} (sought : Bool) (depth : ℕ) → IsSought ts x us → ahead sought depth ts ≡ ahead sought depth us
+past-sought : {ts us : Ts} {x : Tree.SymbolName} (sought : Bool) (depth : ℕ) → IsSymbolName ts x us → ahead sought depth ts ≡ ahead sought depth us
 unfolding ahead lookAt
 past-sought sought depth aLetter = refl
 past-sought sought depth lend = refl
@@ -280,7 +280,7 @@ module _ (sought : Bool) (depth : ℕ) where
       → ahead sought depth ((t at q) ∷ us) ≡ onward r (λ n. ahead sought n us)
   unfolding ahead
   look-token {us = us} seen is =
-      ap (λ (m : Mark). onward (lookAt m depth sought) (λ n. ahead sought n us)) (sym (seen-mark seen))
+      ap (λ (m : Bracketing). onward (lookAt m depth sought) (λ n. ahead sought n us)) (sym (seen-mark seen))
       ∙ ap (λ (l : Looked). onward l (λ n. ahead sought n us)) is
 
   seen-answer : {text : List ℕ} {place p e b : ℕ} {x : Word} {g : Sign} (rest : List Placed) (found : Bool)
@@ -316,7 +316,7 @@ module _ {text : List ℕ} (sought : Bool) (all : List Placed) {place : ℕ} (de
     looked-on more some is = seen-on sought depth all (l .rest) more (l .same) seen some is
 
 -- and not deeper than by one
-pub looked-deeper : (m : Mark) (depth : ℕ) (sought : Bool) (more : ℕ) → lookAt m depth sought ≡ On more → more ≤ depth + 1
+pub looked-deeper : (m : Bracketing) (depth : ℕ) (sought : Bool) (more : ℕ) → lookAt m depth sought ≡ On more → more ≤ depth + 1
 unfolding lookAt
 looked-deeper opening depth sought more e = let same : suc depth ≡ more = cc in omega arith
 looked-deeper closing zero sought more e = absurd (let z : _≡_ {A = ℕ} 0 1 = cc in omega arith)

@@ -14,7 +14,7 @@ use Rattle.bits.proofs.Tests.{and-left, and-right, and-of}
 use Rattle.text.specs.Token as Spec
 use Rattle.text.specs.Token.{word, number, letter, sign, every, Spells, aWord, aNumber, aLetter, aSign}
 use Rattle.text.specs.Tokens.{Placed, _at_, Ending}
-use Rattle.text.specs.First.{IsWord, part, written, Next, Begins, First}
+use Rattle.text.specs.First.{IsWord, part, written, Next, Begins, FirstToken}
 use Rattle.text.specs.declared.Token.{Token}
 use Rattle.text.specs.declared.Token.the-variants as Token
 use Rattle.text.specs.declared.Word.{Word}
@@ -95,9 +95,9 @@ module _ {text : List ℕ} {from : ℕ} where
   begins-seen ts e (Token.Broken p) on b = subst (λ (us : List Placed). SeenBy text from us (Token.Broken p)) (sym (b .none)) nothing
 
 -- what comes first is seen so, whatever tokens stand there
-pub first-seen : {text : List ℕ} {from : ℕ} {s : Token} (r : Token) → First text from s → s ≡ r → (ts : List Placed) → Here text from ts → SeenBy text from ts r
+pub first-seen : {text : List ℕ} {from : ℕ} {s : Token} (r : Token) → FirstToken text from s → s ≡ r → (ts : List Placed) → Here text from ts → SeenBy text from ts r
 first-seen {text} {from} r f same ts h =
-    let first : First text from r = subst (First text from) same f in
+    let first : FirstToken text from r = subst (FirstToken text from) same f in
     begins-seen ts (h .ending) r (first-onward first) (comes (h .tokens) first)
 
 -- where there are tokens there is text

@@ -39,7 +39,7 @@ use Rattle.construction.specs.Compile.{imageRoom}
 use Rattle.bits.specs.Inside.Over.{over}
 use Rattle.compiler.specs.Inside.Writing.{acceptBytes, written, rowPlace, Holds, Heads}
 use Rattle.compiler.specs.Inside.Seeing as Seen
-use Rattle.compiler.specs.Inside.Seeing.{Here, SeenAs, Sees, Passes}
+use Rattle.compiler.specs.Inside.Seeing.{Here, SeenAs, Sees, GoesPast}
 use Rattle.compiler.specs.Inside.Emission.{Emits, RestTask, theRest}
 use Rattle.compiler.specs.Inside.Setting.{LettersAt, Listing, Lists, Tells, SettingsAt, Settings, Settling, Settles, Fits, sheetOf, Beginning, Image}
 use Rattle.compiler.specs.declared.Place.{Place}
@@ -190,7 +190,7 @@ module _ {text before out : List ℕ} {from place count : ℕ} {ts us : Ts} {l :
 
 -- the truth that is told
 pub true-told : {text : List ℕ} {place from q v : ℕ} {ts us : Ts} {d : Bool} {t : Seen}
-    → Passes text place 1 from
+    → GoesPast text place 1 from
     → Sees text from t
     → t .word ≡ Word.True
     → Here text place ts
@@ -203,7 +203,7 @@ true-told pass sees is here isFalse =
     absurd (omega arith)
 
 pub false-told : {text : List ℕ} {place from q v : ℕ} {ts us : Ts} {d : Bool} {t : Seen}
-    → Passes text place 1 from
+    → GoesPast text place 1 from
     → Sees text from t
     → OneOf (wordTags (2 ∷ [])) (wordTag (t .word))
     → Here text place ts
@@ -263,7 +263,7 @@ module _ {text out : List ℕ} {from : ℕ} {t : Seen} (sees : Sees text 0 t) wh
       → length l ≤ 16
       → imageRoom ≤ length out
       → t .word ≡ Word.Alphabet
-      → Passes text (t .end) 2 from
+      → GoesPast text (t .end) 2 from
       → LettersFirst text out from us l d
   first (alphabetFirst (alphabet {u = u} {v = v} {ts = inner} {us = after} letters) decrement) here few room is pass =
       let o = decrement-of decrement in
@@ -292,7 +292,7 @@ module _ {text out : List ℕ} {from : ℕ} {t : Seen} (sees : Sees text 0 t) wh
       → length l ≤ 16
       → imageRoom ≤ length out
       → OneOf (wordTags (0 ∷ [])) (wordTag (t .word))
-      → Passes text (t .end) 6 from
+      → GoesPast text (t .end) 6 from
       → LettersLast text out (t .end) from us l d
   second (alphabetFirst (alphabet letters) decrement) here few room other pass =
       absurd (none-of (wordTags (0 ∷ [])) (wordTag (t .word)) 0 tt other (ap wordTag (seen-word Word.Alphabet (sees .stands _ here) refl)))
@@ -315,12 +315,12 @@ module _ {text out : List ℕ} {from : ℕ} {t : Seen} (sees : Sees text 0 t) wh
         ends = refl;
       }
 
-  pub letters-first : {ts us : Ts} {l : List Letter} {d : Bool} → t .word ≡ Word.Alphabet → Passes text (t .end) 2 from → SettingsAt text out ts us l d → LettersFirst text out from us l d
+  pub letters-first : {ts us : Ts} {l : List Letter} {d : Bool} → t .word ≡ Word.Alphabet → GoesPast text (t .end) 2 from → SettingsAt text out ts us l d → LettersFirst text out from us l d
   letters-first is pass a = first (a .settings) (a .here) (a .few) (a .room) is pass
 
   pub letters-last : {ts us : Ts} {l : List Letter} {d : Bool}
       → OneOf (wordTags (0 ∷ [])) (wordTag (t .word))
-      → Passes text (t .end) 6 from
+      → GoesPast text (t .end) 6 from
       → SettingsAt text out ts us l d
       → LettersLast text out (t .end) from us l d
   letters-last other pass a = second (a .settings) (a .here) (a .few) (a .room) other pass
@@ -329,8 +329,8 @@ module _ {text out : List ℕ} {from : ℕ} {t : Seen} (sees : Sees text 0 t) wh
 module _ {text before after : List ℕ} {from : ℕ} {us : Ts} {l : List Letter} {d : Bool} {listed : Listed} (lists : Lists text from before after listed) where
   pub settled-first : {behind end : ℕ} {stops : Bool}
       → LettersFirst text before from us l d
-      → Passes text (listed .at) 2 behind
-      → Passes text behind 3 end
+      → GoesPast text (listed .at) 2 behind
+      → GoesPast text behind 3 end
       → Tells text behind stops
       → Settling text before after us l d (record { at = end; count = listed .count; stops = stops })
   settled-first {behind} {end} f pass pass′ tells =
@@ -345,7 +345,7 @@ module _ {text before after : List ℕ} {from : ℕ} {us : Ts} {l : List Letter}
 
   pub settled-last : {at₀ end : ℕ} {stops : Bool}
       → LettersLast text before at₀ from us l d
-      → Passes text (listed .at) 1 end
+      → GoesPast text (listed .at) 1 end
       → Tells text at₀ stops
       → Settling text before after us l d (record { at = end; count = listed .count; stops = stops })
   settled-last {end = end} f pass tells =
@@ -407,7 +407,7 @@ module _ {text before : List ℕ} {states rows : ℕ} {p : Program} (fits : Fits
     -- the header is written, and the block's statements are next
     pub fits-beginning : {after : List ℕ} {end : ℕ}
         → Heads middle after (settled .count) (settled .stops) states rows
-        → Passes text (settled .at) 5 end
+        → GoesPast text (settled .at) 5 end
         → Beginning text before after states rows p (record { at = end; state = 0; next = 1; row = settled .count + 38 })
     unfolding programPart construct
     fits-beginning {after} {end} heads pass =

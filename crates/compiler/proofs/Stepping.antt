@@ -21,8 +21,8 @@ use Rattle.rule.proofs.Invert.{PlainOf, Move, forward, back, Goto, toLend, toRe
 use Rattle.rule.proofs.Within.{PlainWithin, StatementWithin}
 use Rattle.construction.specs.Construction.{moveCode, changeCode, Part, statementPart}
 use Rattle.compiler.specs.Inside.Writing.{Sheet, Filled, Room}
-use Rattle.compiler.specs.Inside.Seeing.{Here, Sees, Passes, Digits}
-use Rattle.compiler.specs.Inside.Emission.{Task, Doing, Emitted, Follows, aStatement, HeadedTask, headed, stepRow, Steps}
+use Rattle.compiler.specs.Inside.Seeing.{Here, Sees, GoesPast, Digits}
+use Rattle.compiler.specs.Inside.Emission.{Task, Doing, Emitted, Follows, aStatement, HeadedTask, headed, stepRow, WritesStep}
 use Rattle.compiler.specs.declared.Place.{Place}
 use Rattle.compiler.specs.declared.see.Seen.{Seen}
 use Rattle.compiler.proofs.Tags.{wordTag, signTag, wordTags, signTags, none-of}
@@ -60,7 +60,7 @@ module _ {task : Task} {text out : List ℕ} {place : Place} {h : Sheet} {accept
   )
 
   -- and then it is done
-  pub step-emitted : {after : List ℕ} {r : Place} → Steps text out after place from many motion change r → Emitted text after r h accepting rows us part
+  pub step-emitted : {after : List ℕ} {r : Place} → WritesStep text out after place from many motion change r → Emitted text after r h accepting rows us part
   step-emitted {after} {r} steps =
       let row : stepRow motion change (place .state) (place .next) ∷ [] ≡ stepRow motion change p next ∷ [] = λ i. stepRow motion change (d .stands .state i) (d .stands .takes i) ∷ [] in
       emitted-as (st .is)
@@ -76,7 +76,7 @@ module _ {task : Task} {text out : List ℕ} {place : Place} {h : Sheet} {accept
         };
       })
 
-  pub step-onward : {after : List ℕ} {r : Place} → Steps text out after place from many motion change r → place .at ≤ from → place .at ≤ r .at
+  pub step-onward : {after : List ℕ} {r : Place} → WritesStep text out after place from many motion change r → place .at ≤ from → place .at ≤ r .at
   step-onward steps later = omega (arith, steps .passes .behind (st .rest) (st .here) (st .enough) .onward)
 
 -- a statement's task by its parts
@@ -175,7 +175,7 @@ short {rest = rest} many motion change later sees here enough ends is =
 no-minus : (g : Sign) → g ≡ Sign.Minus → g ≡ Sign.Semicolon → ⊥
 no-minus g e f = let tags : _≡_ {A = ℕ} 10 18 = ap signTag (sym e ∙ f) in omega arith
 
-module _ {text : List ℕ} {start from : ℕ} {t : Seen} (pass : Passes text start 1 from) (sees : Sees text from t) {part : Part} {p next : ℕ} where
+module _ {text : List ℕ} {start from : ℕ} {t : Seen} (pass : GoesPast text start 1 from) (sees : Sees text from t) {part : Part} {p next : ℕ} where
   -- move: with a minus it goes back
   move-back : {n : Seen} {ts us : Ts} {e : Plain}
       → Move ts e us
@@ -241,7 +241,7 @@ module _ {text : List ℕ} {start from : ℕ} {t : Seen} (pass : Passes text sta
       short 2 128 31 (omega (arith, r .onward)) sees (r .here) (omega arith) refl is
 
 -- the calls of a move
-module _ {text out : List ℕ} {place : Place} {from : ℕ} {t : Seen} (pass : Passes text (place .at) 1 from) (sees : Sees text from t)
+module _ {text out : List ℕ} {place : Place} {from : ℕ} {t : Seen} (pass : GoesPast text (place .at) 1 from) (sees : Sees text from t)
     {h : Sheet} {accepting : List ℕ} {rows : List Row} {p next : ℕ} {ts us : Ts} {part : Part} where
   module _ (d : Doing (HeadedTask (w "move")) text out place h accepting rows p next ts us part) where
     move-task : PlainTask Move p next ts us part

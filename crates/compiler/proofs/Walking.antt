@@ -23,7 +23,7 @@ use Rattle.rule.specs.Grammar.{Ts, IsAtom, readIs, readIsNot, counterIs, counte
 use Rattle.rule.proofs.Within.{AtomWithin, ConditionWithin}
 use Rattle.construction.specs.Construction.{Part, atomRows, Added, walk, oneAfterOther, oneOrOther, test}
 use Rattle.compiler.specs.Inside.Writing.{Sheet, Filled, Room, Writes}
-use Rattle.compiler.specs.Inside.Seeing.{Here, SeenAs, Sees, Passes}
+use Rattle.compiler.specs.Inside.Seeing.{Here, SeenAs, Sees, GoesPast}
 use Rattle.reader.specs.Atom.{AtomAt}
 use Rattle.reader.specs.Inside.Atoms.{atomOf}
 use Rattle.reader.specs.declared.atoms.Atom.{Atom as Tested}
@@ -31,7 +31,7 @@ use Rattle.reader.specs.declared.atoms.AtomRead.{AtomRead}
 use Rattle.reader.specs.declared.atoms.AtomRead.the-variants.{Found, Refused}
 use Rattle.reader.proofs.atoms.AtomRead as read-type
 use Rattle.compiler.specs.Inside.Atoms.{rowsOf}
-use Rattle.compiler.specs.Inside.Emission.{At, Doing, Ready, Emitted, Emits, rowsPart, addedPart, AtomTask, anAtom, Closes, byParen, byOr, byAny, WalkTask, walks, joins, joined, takes, viaTo, viaFrom, viaNext, Goes, TestTask, tests}
+use Rattle.compiler.specs.Inside.Emission.{At, Doing, Ready, Emitted, Emits, rowsPart, addedPart, AtomTask, anAtom, Closes, byParen, byOr, byAny, WalkTask, walks, joins, joined, takes, viaTo, viaFrom, viaNext, Leads, TestTask, tests}
 use Rattle.compiler.specs.Inside.Operators.{ahead, Ahead}
 use Rattle.compiler.specs.declared.Place.{Place}
 use Rattle.compiler.specs.declared.walk.Course.{Course}
@@ -209,7 +209,7 @@ via-taken true p next taken grown = grown
 via-taken false p next taken grown = omega arith
 
 -- the two calls of a chain with an operator
-module _ {text out : List ℕ} {place : Place} {sought : Bool} {to : ℕ} {sign : Bool} {w : Course} (goes : Goes (takes sought sign) to place w)
+module _ {text out : List ℕ} {place : Place} {sought : Bool} {to : ℕ} {sign : Bool} {w : Course} (goes : Leads (takes sought sign) to place w)
     {h : Sheet} {accepting : List ℕ} {rows : List Row} {p next : ℕ} {ts us : Ts} {part : Part}
     (d : Doing (WalkTask (joins sought) to sign) text out place h accepting rows p next ts us part)
     (s : Sides sought to sign (h .alphabet) p next ts us part) where
@@ -241,7 +241,7 @@ module _ {text out : List ℕ} {place : Place} {sought : Bool} {to : ℕ} {sign 
         fits = fits-first rows (s .first .rows) (s .second .rows) both-fit;
       }
 
-  module _ {middle : List ℕ} {r : Place} (e : Emitted text middle r h accepting rows ((operator sought at (s .place)) ∷ s .behind) (addedPart (s .first) p)) {end : ℕ} (pass : Passes text (r .at) 1 end) where
+  module _ {middle : List ℕ} {r : Place} (e : Emitted text middle r h accepting rows ((operator sought at (s .place)) ∷ s .behind) (addedPart (s .first) p)) {end : ℕ} (pass : GoesPast text (r .at) 1 end) where
     -- what stands behind it
     pub behind-operator : Doing (WalkTask (joins sought) to sign) text middle (record { at = end; state = w .from; next = r .next; row = r .row }) h (accepting ++ []) (rows ++ s .first .rows) (viaFrom taking p next) (s .first .next) (s .behind) us (addedPart (s .second) (viaFrom taking p next))
     behind-operator =
@@ -371,9 +371,9 @@ walk-few d =
     omega (arith, d .stands .takes, w .grows, ap (λ (x : Part). x .next) (w .is), d .states)
 
 -- the state that an operator takes
-pub goes-through : (taking : Bool) (to : ℕ) (place : Place) → taking ≡ true → Goes taking to place (record { to = place .next; from = place .next; next = place .next + 1 })
+pub goes-through : (taking : Bool) (to : ℕ) (place : Place) → taking ≡ true → Leads taking to place (record { to = place .next; from = place .next; next = place .next + 1 })
 goes-through taking to place e =
-    subst (λ (t : Bool). Goes t to place (record { to = place .next; from = place .next; next = place .next + 1 })) (sym e)
+    subst (λ (t : Bool). Leads t to place (record { to = place .next; from = place .next; next = place .next + 1 })) (sym e)
     (record { first = refl; second = refl; takes = add-one (place .next) })
 
 -- how the measure falls: from a chain to a side of it
@@ -448,7 +448,7 @@ test-of {yes} {no} {alphabet} {p} {next} (tests {c = c} d within y n) =
       later = leads-walk alphabet c false p no (walk alphabet c true p yes next .next) .grows;
     }
 
-module _ {text out : List ℕ} {place : Place} {yes no : ℕ} {start : ℕ} (enters : Passes text (place .at) 1 start)
+module _ {text out : List ℕ} {place : Place} {yes no : ℕ} {start : ℕ} (enters : GoesPast text (place .at) 1 start)
     {h : Sheet} {accepting : List ℕ} {rows : List Row} {p next : ℕ} {ts us : Ts} {part : Part}
     (d : Doing (TestTask yes no) text out place h accepting rows p next ts us part) where
   abbrev tested : TestOf yes no (h .alphabet) p next ts us part
@@ -500,7 +500,7 @@ module _ {text out : List ℕ} {place : Place} {yes no : ℕ} {start : ℕ} (ent
   -- both
   pub tests-emitted : {after : List ℕ} {last : Place} {end : ℕ}
       → Emitted text after last h (accepting ++ []) (rows ++ held .rows) ((s ")" at (tested .closes)) ∷ us) (addedPart failed p)
-      → Passes text (last .at) 1 end
+      → GoesPast text (last .at) 1 end
       → Emitted text after (record { at = end; state = last .state; next = last .next; row = last .row }) h accepting rows us part
   unfolding test
   tests-emitted {after} {last} {end} e pass =

@@ -3,7 +3,7 @@ ghost use Prim.Native.Nat.{_≤_};
 ghost use mathlib.Core.List.{[], _∷_};
 ghost use Rattle.text.specs.Token.{w};
 ghost use Rattle.compiler.specs.Inside.Writing.{Room};
-ghost use Rattle.compiler.specs.Inside.Emission.{stepRow, Steps, Stops, Ready, Emits, HeadedTask};
+ghost use Rattle.compiler.specs.Inside.Emission.{stepRow, WritesStep, Stops, Ready, Emits, HeadedTask};
 use super::Place;
 use super::see::number;
 use super::see::past;
@@ -23,7 +23,7 @@ fn step(
     change: u8,
 ) -> Place
     requires { ⌜ Room (now out) (place .row) (λ _. stepRow motion change (place .state) (place .next) ∷ []) × (place .state ≤ 128) × (place .next ≤ 128) ⌝ }
-    ensures { λ r. ⌜ Steps (now (text .entry)) (now (out .entry)) (now (out .exit)) place at many motion change r ⌝ }
+    ensures { λ r. ⌜ WritesStep (now (text .entry)) (now (out .entry)) (now (out .exit)) place at many motion change r ⌝ }
 {
     let to = place.next;
     let row = write::row(out, place.row, place.state, 18, 2, motion, change, to);

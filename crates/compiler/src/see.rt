@@ -2,7 +2,7 @@
 ghost use mathlib.Core.Path.{_≡_};
 ghost use Rattle.text.specs.First.{part};
 ghost use Rattle.rule.specs.Limits.{valueFrom};
-ghost use Rattle.compiler.specs.Inside.Seeing.{Sees, Passes, Digits};
+ghost use Rattle.compiler.specs.Inside.Seeing.{Sees, GoesPast, Digits};
 use text::Sign;
 use text::Token;
 use text::Word;
@@ -69,7 +69,7 @@ pub fn see(text: &[u8], from: usize) -> Seen
 
 // The place behind so many tokens.
 pub fn past(text: &[u8], from: usize, many: usize) -> usize
-    ensures { λ r. ⌜ Passes (now (text .entry)) from many r ⌝ }
+    ensures { λ r. ⌜ GoesPast (now (text .entry)) from many r ⌝ }
 {
     let mut at = from;
     let mut i = 0;

@@ -7,7 +7,7 @@ ghost use Prim.Native.Nat.{ℕ};
 ghost use Rattle.construction.specs.Construction.{allSymbols, without, symbolRows};
 ghost use Rattle.compiler.specs.Inside.Writing.{Held, Room, Writes};
 ghost use Rattle.compiler.specs.Inside.Atoms.{counterRows, readRows, walkedAs, rowsOf, Codes};
-ghost use Rattle.compiler.specs.Inside.Emission.{Ready, Emits, AtomTask, WalkTask, joins, joined, takes, Goes, TestTask};
+ghost use Rattle.compiler.specs.Inside.Emission.{Ready, Emits, AtomTask, WalkTask, joins, joined, takes, Leads, TestTask};
 ghost use Rattle.rule.specs.Grammar.{tightest};
 use super::Place;
 use super::ahead::operator_ahead;
@@ -192,7 +192,7 @@ struct Course {
 
 fn way(place: Place, to: usize, taking: bool) -> Course
     requires { ⌜ place .next ≤ 128 ⌝ }
-    ensures { λ r. ⌜ Goes taking to place r ⌝ }
+    ensures { λ r. ⌜ Leads taking to place r ⌝ }
 {
     if taking {
         Course {

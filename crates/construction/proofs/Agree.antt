@@ -14,7 +14,7 @@ use Rattle.construction.specs.Construction.{programPart, construct}
 use Rattle.construction.specs.Agreement.{Agree}
 use Rattle.construction.proofs.WellFormed.{accepts-listed, listed-accepts}
 use Rattle.construction.proofs.Trial.{trial, before-done, begins-whole}
-use Rattle.construction.proofs.Fragments.{Stands, atEnd, block-stands}
+use Rattle.construction.proofs.Fragments.{StandsFor, atEnd, block-stands}
 use Rattle.construction.proofs.ToTable.{to-table}
 use Rattle.construction.proofs.Roles.{programRoles, roleOf, role-given, given-first, given-rest}
 use Rattle.construction.proofs.Sound.{Here, comes, came}
@@ -22,7 +22,7 @@ use Rattle.construction.proofs.ToProgram.{Right, statements-right}
 
 module _ (p : Program) (none : faults p ≡ []) where
   -- state 0 stands for the whole program
-  body-stands : construct p .states ≤ 128 → Stands (construct p) 0 (p .body)
+  body-stands : construct p .states ≤ 128 → StandsFor (construct p) 0 (p .body)
   unfolding construct programPart
   body-stands few =
       rw before-done at

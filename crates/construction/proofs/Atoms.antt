@@ -14,7 +14,7 @@ use Rattle.cells.specs.Cell as Cell
 use Rattle.cells.specs.Cell.{Symbol}
 use Rattle.machine.specs.Step.{symbolFits, counterFits}
 use Rattle.rule.specs.Limits.{value}
-use Rattle.rule.specs.Tree.{Number, Sought, letter, lend, rend, Atom, readIs, readIsNot, counterIs, counterIsNot}
+use Rattle.rule.specs.Tree.{Number, SymbolName, letter, lend, rend, Atom, readIs, readIsNot, counterIs, counterIsNot}
 use Rattle.rule.specs.Meaning.{reads, atomHolds}
 use Rattle.rule.proofs.Within.{SoughtWithin, AtomWithin}
 use Rattle.construction.specs.Construction.{
@@ -35,7 +35,7 @@ use Rattle.construction.specs.Construction.{
 }
 use Rattle.construction.proofs.Every.{Every, every-nil, every-cons, every-append}
 use Rattle.construction.proofs.Symbols.{
-  Stands,
+  HasCode,
   index-stands,
   index-once,
   Known,
@@ -58,7 +58,7 @@ same-test a b c d f g = go (ℕ-discrete a b)
     go (no n) = ne-eqb a b n ∙ sym (ne-eqb c d (λ e. n (g e)))
 
 -- a row of these fits what is read and the counter
-pub record Passes (alphabet : List ℕ) (s : Symbol) (counter : ℕ) (rows : List Row) : Type 0 where
+pub record LetsThrough (alphabet : List ℕ) (s : Symbol) (counter : ℕ) (rows : List Row) : Type 0 where
   pub row : Row
   pub listed : List·Memᴰ row rows
   pub symbol : symbolFits alphabet (row .symbol) s ≡ true
@@ -100,7 +100,7 @@ module _ (alphabet : List ℕ) (few : length alphabet ≤ 16) where
 
   -- to read what is sought is to read its code
   reads-code :
-      (x : Sought) (s : Symbol)
+      (x : SymbolName) (s : Symbol)
       → SoughtWithin alphabet x
       → Known alphabet s
       → reads x s ≡ eqb (symbolCode alphabet x) (codeOf alphabet s)
@@ -123,7 +123,7 @@ module _ (alphabet : List ℕ) (few : length alphabet ≤ 16) where
     unfolding symbolFits
     fits-letter y b any known = go (decLt y (length alphabet))
       where
-        stands : Stands alphabet b (indexIn alphabet b)
+        stands : HasCode alphabet b (indexIn alphabet b)
         stands = index-stands alphabet b known
 
         go : Dec (y < length alphabet) → symbolFits alphabet y (Cell.letter b) ≡ eqb y (indexIn alphabet b)
@@ -148,7 +148,7 @@ module _ (alphabet : List ℕ) (few : length alphabet ≤ 16) where
           (xs : List ℕ)
           → Every (λ (y : ℕ). y ≢ 18) xs
           → List·Memᴰ (codeOf alphabet s) xs
-          → Passes alphabet s counter (symbolRows xs p q)
+          → LetsThrough alphabet s counter (symbolRows xs p q)
       symbols-pass xs f m =
           record {
             row = testRow (codeOf alphabet s) eitherCounter p q;
@@ -160,7 +160,7 @@ module _ (alphabet : List ℕ) (few : length alphabet ≤ 16) where
       pass-symbols :
           (xs : List ℕ)
           → Every (λ (y : ℕ). y ≢ 18) xs
-          → Passes alphabet s counter (symbolRows xs p q)
+          → LetsThrough alphabet s counter (symbolRows xs p q)
           → List·Memᴰ (codeOf alphabet s) xs
       pass-symbols xs f pass =
           let found = symbolRows-mem xs p q (pass .row) (pass .listed) in
@@ -175,7 +175,7 @@ module _ (alphabet : List ℕ) (few : length alphabet ≤ 16) where
           (record { at = λ y m e. omega (arith, countUp-mem (length alphabet) 0 y m) })
           (every-cons (omega arith) (every-cons (omega arith) every-nil))
 
-      module _ (x : Sought) (within : SoughtWithin alphabet x) where
+      module _ (x : SymbolName) (within : SoughtWithin alphabet x) where
         one-not-any : Every (λ (y : ℕ). y ≢ 18) (symbolCode alphabet x ∷ [])
         one-not-any = every-cons (code-not-any .at (symbolCode alphabet x) (code-mem alphabet x within)) every-nil
 
@@ -183,24 +183,24 @@ module _ (alphabet : List ℕ) (few : length alphabet ≤ 16) where
         others-not-any =
             record { at = λ y m. code-not-any .at y (without-mem (symbolCode alphabet x) y (allSymbols alphabet) m .1) }
 
-        is-pass : reads x s ≡ true → Passes alphabet s counter (isRows alphabet x p q)
+        is-pass : reads x s ≡ true → LetsThrough alphabet s counter (isRows alphabet x p q)
         is-pass holds =
             symbols-pass (symbolCode alphabet x ∷ []) one-not-any
             (List·Memᴰ·head (sym (eqb-true (symbolCode alphabet x) (codeOf alphabet s) (sym (reads-code x s within known) ∙ holds))))
 
-        pass-is : Passes alphabet s counter (isRows alphabet x p q) → reads x s ≡ true
+        pass-is : LetsThrough alphabet s counter (isRows alphabet x p q) → reads x s ≡ true
         pass-is pass =
             reads-code x s within known
             ∙ eq-eqb (symbolCode alphabet x) (codeOf alphabet s) (sym (List·Memᴰ·eq-of-singleton (pass-symbols (symbolCode alphabet x ∷ []) one-not-any pass)))
 
-        isNot-pass : reads x s ≡ false → Passes alphabet s counter (isNotRows alphabet x p q)
+        isNot-pass : reads x s ≡ false → LetsThrough alphabet s counter (isNotRows alphabet x p q)
         isNot-pass fails =
             symbols-pass (without (symbolCode alphabet x) (allSymbols alphabet)) others-not-any
             (mem-without (symbolCode alphabet x) (codeOf alphabet s) (allSymbols alphabet)
             (λ e. eqb-false (symbolCode alphabet x) (codeOf alphabet s) (sym (reads-code x s within known) ∙ fails) (sym e))
             (known-code alphabet s known))
 
-        pass-isNot : Passes alphabet s counter (isNotRows alphabet x p q) → reads x s ≡ false
+        pass-isNot : LetsThrough alphabet s counter (isNotRows alphabet x p q) → reads x s ≡ false
         pass-isNot pass =
             let found = pass-symbols (without (symbolCode alphabet x) (allSymbols alphabet)) others-not-any pass in
             reads-code x s within known
@@ -208,26 +208,26 @@ module _ (alphabet : List ℕ) (few : length alphabet ≤ 16) where
             (λ e. without-mem (symbolCode alphabet x) (codeOf alphabet s) (allSymbols alphabet) found .0 (sym e))
 
       -- a test of the counter is one row
-      counter-pass : (n : ℕ) → counterFits n counter ≡ true → Passes alphabet s counter (testRow anySymbol n p q ∷ [])
+      counter-pass : (n : ℕ) → counterFits n counter ≡ true → LetsThrough alphabet s counter (testRow anySymbol n p q ∷ [])
       counter-pass n fits =
           record { row = testRow anySymbol n p q; listed = List·Memᴰ·head refl; symbol = any-symbol alphabet s; test = fits }
 
-      pass-counter : (n : ℕ) → Passes alphabet s counter (testRow anySymbol n p q ∷ []) → counterFits n counter ≡ true
+      pass-counter : (n : ℕ) → LetsThrough alphabet s counter (testRow anySymbol n p q ∷ []) → counterFits n counter ≡ true
       pass-counter n pass =
           ap (λ (r : Row). counterFits (r .test) counter) (sym (List·Memᴰ·eq-of-singleton (pass .listed))) ∙ pass .test
 
       module _ (n : Number) (none : value n ≡ 0) where
-        zero-pass : eqb counter (value n) ≡ true → Passes alphabet s counter (testRow anySymbol 0 p q ∷ [])
+        zero-pass : eqb counter (value n) ≡ true → LetsThrough alphabet s counter (testRow anySymbol 0 p q ∷ [])
         zero-pass holds = counter-pass 0 (counter-zero counter ∙ ap (λ (k : ℕ). eqb counter k) (sym none) ∙ holds)
 
-        pass-zero : Passes alphabet s counter (testRow anySymbol 0 p q ∷ []) → eqb counter (value n) ≡ true
+        pass-zero : LetsThrough alphabet s counter (testRow anySymbol 0 p q ∷ []) → eqb counter (value n) ≡ true
         pass-zero pass = ap (λ (k : ℕ). eqb counter k) none ∙ sym (counter-zero counter) ∙ pass-counter 0 pass
 
-        above-pass : eqb counter (value n) ≡ false → Passes alphabet s counter (testRow anySymbol 1 p q ∷ [])
+        above-pass : eqb counter (value n) ≡ false → LetsThrough alphabet s counter (testRow anySymbol 1 p q ∷ [])
         above-pass fails =
             counter-pass 1 (counter-above counter ∙ ap not (ap (λ (k : ℕ). eqb counter k) (sym none) ∙ fails))
 
-        pass-above : Passes alphabet s counter (testRow anySymbol 1 p q ∷ []) → eqb counter (value n) ≡ false
+        pass-above : LetsThrough alphabet s counter (testRow anySymbol 1 p q ∷ []) → eqb counter (value n) ≡ false
         pass-above pass =
             ap (λ (k : ℕ). eqb counter k) none
             ∙ not-true (eqb counter 0) (sym (counter-above counter) ∙ pass-counter 1 pass)
@@ -237,7 +237,7 @@ module _ (alphabet : List ℕ) (few : length alphabet ≤ 16) where
           (a : Atom) (sign : Bool)
           → AtomWithin alphabet a
           → atomHolds s counter a ≡ sign
-          → Passes alphabet s counter (atomRows alphabet sign a p q)
+          → LetsThrough alphabet s counter (atomRows alphabet sign a p q)
       unfolding atomHolds atomRows AtomWithin
       atom-pass (readIs x) true within holds = is-pass x within holds
       atom-pass (readIs x) false within holds = isNot-pass x within holds
@@ -252,7 +252,7 @@ module _ (alphabet : List ℕ) (few : length alphabet ≤ 16) where
       pub pass-atom :
           (a : Atom) (sign : Bool)
           → AtomWithin alphabet a
-          → Passes alphabet s counter (atomRows alphabet sign a p q)
+          → LetsThrough alphabet s counter (atomRows alphabet sign a p q)
           → atomHolds s counter a ≡ sign
       unfolding atomHolds atomRows AtomWithin
       pass-atom (readIs x) true within pass = pass-is x within pass

@@ -9,7 +9,7 @@ use lib.ListN.{length}
 use Rattle.table.specs.Table.{Row}
 use Rattle.table.specs.WellFormed.{SymbolCode}
 use Rattle.rule.specs.Tree.{
-  Sought,
+  SymbolName,
   Atom,
   readIs,
   readIsNot,
@@ -154,11 +154,11 @@ module _ (alphabet : List ℕ) where
       (test-codes (f .at x (List·Memᴰ·head refl)) (omega arith))
       (symbol-rows xs p q (record { at = λ y m. f .at y (List·Memᴰ·tail m) }))
 
-  is-rows : (x : Sought) (p q : ℕ) → SoughtWithin alphabet x → Every (CodesIn (length alphabet)) (isRows alphabet x p q)
+  is-rows : (x : SymbolName) (p q : ℕ) → SoughtWithin alphabet x → Every (CodesIn (length alphabet)) (isRows alphabet x p q)
   is-rows x p q within =
       symbol-rows _ p q (every-cons (all-codes .at _ (code-mem alphabet x within)) every-nil)
 
-  isNot-rows : (x : Sought) (p q : ℕ) → Every (CodesIn (length alphabet)) (isNotRows alphabet x p q)
+  isNot-rows : (x : SymbolName) (p q : ℕ) → Every (CodesIn (length alphabet)) (isNotRows alphabet x p q)
   isNot-rows x p q =
       symbol-rows _ p q (record { at = λ y m. all-codes .at y (without-mem (symbolCode alphabet x) y (allSymbols alphabet) m .1) })
 

@@ -8,7 +8,7 @@ use mathlib.Core.Bool.{Bool, true, false, not}
 use mathlib.Core.List.{List, [], _∷_}
 use lib.ListN.{length, length-append}
 use Rattle.rule.specs.Tree.{
-  Sought,
+  SymbolName,
   Atom,
   readIs,
   readIsNot,
@@ -251,7 +251,7 @@ or-rows a b m n f g p q next = simp length-append (omega (arith, f p q next, g p
 -- over an alphabet of at most 16 letters, every tree whose conditions seek letters of it has its rows
 module _ (alphabet : List ℕ) (few : length alphabet ≤ 16) where
   length-isNotRows :
-      (x : Sought) (p q : ℕ) → SoughtWithin alphabet x → length (isNotRows alphabet x p q) ≡ length alphabet + 1
+      (x : SymbolName) (p q : ℕ) → SoughtWithin alphabet x → length (isNotRows alphabet x p q) ≡ length alphabet + 1
   length-isNotRows x p q within = length-symbolRows _ p q ∙ length-others alphabet x few within
 
   -- an atom, walked with this sign

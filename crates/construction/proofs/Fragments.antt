@@ -154,14 +154,14 @@ module _ {t : Table} where
       record { rows = every-right (a .rows) _ (h .rows); accepting = every-right (a .accepting) _ (h .accepting) }
 
 -- a state stands for statements left to run: the first one's part starts from it, or a free row leads on to such a state
-pub data Stands (t : Table) : ℕ → Statements → Type 0 where
-  atEnd : {s : ℕ} → Stands t s done
+pub data StandsFor (t : Table) : ℕ → Statements → Type 0 where
+  atEnd : {s : ℕ} → StandsFor t s done
   front : {s : ℕ} (next : ℕ) {a : Statement} {rest : Statements}
       → StatementWithin (t .alphabet) a
       → Has t (statementPart (t .alphabet) a s next)
-      → Stands t next rest
-      → Stands t s (a then rest)
-  onward : {s u : ℕ} {k : Statements} → IsRow t (free s u) → Stands t u k → Stands t s k
+      → StandsFor t next rest
+      → StandsFor t s (a then rest)
+  onward : {s u : ℕ} {k : Statements} → IsRow t (free s u) → StandsFor t u k → StandsFor t s k
 
 -- arms exit where the branch does
 arms-exit : (alphabet : List ℕ) (a : Arms) (p q next : ℕ) → armsPart alphabet a p q next .exit ≡ q
@@ -185,8 +185,8 @@ pub block-stands :
     {t : Table} (b : Statements) (s next : ℕ) {k : Statements}
     → StatementsWithin (t .alphabet) b
     → Has t (statementsPart (t .alphabet) b s next)
-    → Stands t (statementsPart (t .alphabet) b s next .exit) k
-    → Stands t s (b before k)
+    → StandsFor t (statementsPart (t .alphabet) b s next .exit) k
+    → StandsFor t s (b before k)
 unfolding statementsPart andThen _before_ StatementsWithin
 block-stands done s next within has after = after
 block-stands {t} (a then b) s next within has after =
@@ -200,8 +200,8 @@ pub rest-stands :
     {t : Table} (e : Rest) (s next : ℕ) {k : Statements}
     → RestWithin (t .alphabet) e
     → Has t (restPart (t .alphabet) e s next)
-    → Stands t (restPart (t .alphabet) e s next .exit) k
-    → Stands t s (otherwise e before k)
+    → StandsFor t (restPart (t .alphabet) e s next .exit) k
+    → StandsFor t s (otherwise e before k)
 unfolding restPart otherwise _before_ RestWithin
 rest-stands nothing s next within has after = after
 rest-stands (else o b) s next within has after = block-stands b s next within has after

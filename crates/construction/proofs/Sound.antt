@@ -25,7 +25,7 @@ use Rattle.rule.specs.Tree.{
   _then_,
   Program,
 }
-use Rattle.rule.specs.Meaning.{atomHolds, holds, Turns, does, turns, Comes, goes}
+use Rattle.rule.specs.Meaning.{atomHolds, holds, Continues, does, continues, ProgramReach, goes}
 use Rattle.rule.proofs.Within.{AtomWithin, ConditionWithin, PlainWithin}
 use Rattle.construction.specs.Construction.{free, plainRow, atomRows, Added, Walk, oneAfterOther, oneOrOther, walk, test}
 use Rattle.construction.proofs.Every.{Every, every-append}
@@ -47,7 +47,7 @@ use Rattle.construction.proofs.Roles.{Role, leaves, knows, walkRoles, t
 -- the program has come to what a role says, on this cell with this counter
 pub data Here (p : Program) (word : List ℕ) (limit : ℕ) : Role → ℕ → ℕ → Type 0 where
   comes : {k : Statements} {cell counter : ℕ}
-      → Comes p word limit (record { left = k; cell = cell; counter = counter })
+      → ProgramReach p word limit (record { left = k; cell = cell; counter = counter })
       → Here p word limit (leaves k) cell counter
   knowing : {m : Role} {c : Condition} {sign : Bool} {cell counter : ℕ}
       → Here p word limit m cell counter
@@ -58,7 +58,7 @@ module _ {p : Program} {word : List ℕ} {limit : ℕ} where
   -- it has come to these statements
   pub came : {k : Statements} {cell counter : ℕ}
       → Here p word limit (leaves k) cell counter
-      → Comes p word limit (record { left = k; cell = cell; counter = counter })
+      → ProgramReach p word limit (record { left = k; cell = cell; counter = counter })
   came (comes h) = h
 
   -- what is known on the way through a test
@@ -148,19 +148,19 @@ module _ (x : Trial) (role : ℕ → Role) where
       → role s ≡ leaves (a then rest)
       → role u ≡ leaves k
       → (cell counter : ℕ)
-      → Turns (symbolOn word cell) counter a rest k
+      → Continues (symbolOn word cell) counter a rest k
       → At s cell counter
       → At u cell counter
   turn s u left right cell counter step h =
       let before = came (rw left at h) in
-      rw right (comes (goes before (turns step) (comes-low before)))
+      rw right (comes (goes before (continues step) (comes-low before)))
 
   -- a free row over which it does
   pub turn-sound :
       {a : Statement} {rest k : Statements} (s u : ℕ)
       → role s ≡ leaves (a then rest)
       → role u ≡ leaves k
-      → ((symbol : Symbol) (counter : ℕ) → Turns symbol counter a rest k)
+      → ((symbol : Symbol) (counter : ℕ) → Continues symbol counter a rest k)
       → Sound (free s u)
   turn-sound s u left right f =
       free-sound s u (λ cell counter. turn s u left right cell counter (f (symbolOn word cell) counter))
@@ -208,7 +208,7 @@ module _ (x : Trial) (role : ℕ → Role) where
       {a : Statement} {rest k : Statements} {sign : Bool} (c : Condition) (s u : ℕ)
       → role s ≡ leaves (a then rest)
       → role u ≡ leaves k
-      → ((symbol : Symbol) (counter : ℕ) → holds symbol counter c ≡ sign → Turns symbol counter a rest k)
+      → ((symbol : Symbol) (counter : ℕ) → holds symbol counter c ≡ sign → Continues symbol counter a rest k)
       → (cell counter : ℕ)
       → Truth c sign cell counter
       → At s cell counter
@@ -316,8 +316,8 @@ module _ (x : Trial) (role : ℕ → Role) where
       → role u ≡ leaves k
       → role v ≡ leaves k′
       → Given role next (testRoles c (leaves (a then rest)) more)
-      → ((symbol : Symbol) (counter : ℕ) → holds symbol counter c ≡ true → Turns symbol counter a rest k)
-      → ((symbol : Symbol) (counter : ℕ) → holds symbol counter c ≡ false → Turns symbol counter a rest k′)
+      → ((symbol : Symbol) (counter : ℕ) → holds symbol counter c ≡ true → Continues symbol counter a rest k)
+      → ((symbol : Symbol) (counter : ℕ) → holds symbol counter c ≡ false → Continues symbol counter a rest k′)
       → Tested (test (t .alphabet) c s u v next) more
   unfolding test testRoles
   tests-sound c s u v next {more = more} within left right right′ given f g =

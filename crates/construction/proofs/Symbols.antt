@@ -30,7 +30,7 @@ use borrow.Author.Tests.{eqb-true, eqb-false, eq-eqb, ne-eqb}
 use Rattle.table.specs.Table.{Row}
 use Rattle.cells.specs.Cell as Cell
 use Rattle.cells.specs.Cell.{Symbol}
-use Rattle.rule.specs.Tree.{Sought, letter, lend, rend}
+use Rattle.rule.specs.Tree.{SymbolName, letter, lend, rend}
 use Rattle.rule.proofs.Within.{SoughtWithin}
 use Rattle.construction.specs.Construction.{
   leftMark,
@@ -46,12 +46,12 @@ use Rattle.construction.specs.Construction.{
 }
 
 -- the code i stands for the letter b
-pub record Stands (l : List ℕ) (b i : ℕ) : Type 0 where
+pub record HasCode (l : List ℕ) (b i : ℕ) : Type 0 where
   pub below : i < length l
   pub finds : getD l i 0 ≡ b
 
 -- a letter of the alphabet has an index there, where it stands
-pub index-stands : (l : List ℕ) (b : ℕ) → List·Memᴰ b l → Stands l b (indexIn l b)
+pub index-stands : (l : List ℕ) (b : ℕ) → List·Memᴰ b l → HasCode l b (indexIn l b)
 unfolding indexIn
 index-stands [] b m = absurd (List·Memᴰ·not-nil m)
 index-stands (x ∷ xs) b m = go (eqb b x) refl (List·Memᴰ·cases-cons m) (index-stands xs b)
@@ -59,8 +59,8 @@ index-stands (x ∷ xs) b m = go (eqb b x) refl (List·Memᴰ·cases-cons m) (in
     go : (t : Bool)
         → eqb b x ≡ t
         → (b ≡ x) ⊎ List·Memᴰ b xs
-        → (List·Memᴰ b xs → Stands xs b (indexIn xs b))
-        → Stands (x ∷ xs) b (elim t [ true ↦ 0 | false ↦ suc (indexIn xs b) ])
+        → (List·Memᴰ b xs → HasCode xs b (indexIn xs b))
+        → HasCode (x ∷ xs) b (elim t [ true ↦ 0 | false ↦ suc (indexIn xs b) ])
     go true q m rest = record { below = suc-le-suc zero-le; finds = sym (eqb-true b x q) }
     go false q (inl e) rest = absurd (eqb-false b x q e)
     go false q (inr m) rest = record { below = suc-le-suc (rest m .below); finds = rest m .finds }
@@ -229,7 +229,7 @@ known-code alphabet Cell.rightMark known =
 
 -- and so is what a condition seeks
 pub code-mem :
-    (alphabet : List ℕ) (x : Sought) → SoughtWithin alphabet x → List·Memᴰ (symbolCode alphabet x) (allSymbols alphabet)
+    (alphabet : List ℕ) (x : SymbolName) → SoughtWithin alphabet x → List·Memᴰ (symbolCode alphabet x) (allSymbols alphabet)
 unfolding symbolCode SoughtWithin
 code-mem alphabet (letter l) m = known-code alphabet (Cell.letter (l .byte)) m
 code-mem alphabet lend m = known-code alphabet Cell.leftMark m
@@ -237,7 +237,7 @@ code-mem alphabet rend m = known-code alphabet Cell.rightMark m
 
 -- so there are k + 1 others
 pub length-others :
-    (alphabet : List ℕ) (x : Sought)
+    (alphabet : List ℕ) (x : SymbolName)
     → length alphabet ≤ 16
     → SoughtWithin alphabet x
     → length (without (symbolCode alphabet x) (allSymbols alphabet)) ≡ length alphabet + 1

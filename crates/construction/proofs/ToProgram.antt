@@ -33,13 +33,13 @@ use Rattle.rule.specs.Meaning.{
   lastOne,
   thisOne,
   another,
-  Turns,
+  Continues,
   ifHolds,
   ifFails,
   whileHolds,
   whileFails,
   goesRound,
-  stops,
+  leavesLoop,
   firstArm,
   otherArm,
 }
@@ -187,8 +187,8 @@ module _ (x : Trial) (role : ℕ → Role) where
       → ConditionWithin (t .alphabet) c
       → role s ≡ leaves (a then rest)
       → Given role next (leaves rest ∷ leaves k ∷ leaves k′ ∷ testRoles c (leaves (a then rest)) more)
-      → ((symbol : Symbol) (counter : ℕ) → holds symbol counter c ≡ true → Turns symbol counter a rest k)
-      → ((symbol : Symbol) (counter : ℕ) → holds symbol counter c ≡ false → Turns symbol counter a rest k′)
+      → ((symbol : Symbol) (counter : ℕ) → holds symbol counter c ≡ true → Continues symbol counter a rest k)
+      → ((symbol : Symbol) (counter : ℕ) → holds symbol counter c ≡ false → Continues symbol counter a rest k′)
       → Tested x role (test (t .alphabet) c s (next + 1) (next + 2) (next + 3)) more
   if-tests c s next within left given =
       tests-sound x role c s (next + 1) (next + 2) (next + 3) within left (given-second given) (given-third given)
@@ -200,8 +200,8 @@ module _ (x : Trial) (role : ℕ → Role) where
       → ConditionWithin (t .alphabet) c
       → role s ≡ leaves (a then rest)
       → Given role next (leaves rest ∷ leaves k ∷ testRoles c (leaves (a then rest)) more)
-      → ((symbol : Symbol) (counter : ℕ) → holds symbol counter c ≡ true → Turns symbol counter a rest k)
-      → ((symbol : Symbol) (counter : ℕ) → holds symbol counter c ≡ false → Turns symbol counter a rest rest)
+      → ((symbol : Symbol) (counter : ℕ) → holds symbol counter c ≡ true → Continues symbol counter a rest k)
+      → ((symbol : Symbol) (counter : ℕ) → holds symbol counter c ≡ false → Continues symbol counter a rest rest)
       → Tested x role (test (t .alphabet) c s (next + 1) next (next + 2)) more
   while-tests c s next within left given =
       tests-sound x role c s (next + 1) next (next + 2) within left (given-second given) (given-first given)
@@ -243,7 +243,7 @@ module _ (x : Trial) (role : ℕ → Role) where
         loop-right s next (tests .rows) body left (given-first given)
     statement-right (choose l o b) s next rest more within left given =
         let round = turn-sound x role s (next + 1) left (given-second given) (λ symbol counter. goesRound) in
-        let out = turn-sound x role s next left (given-first given) (λ symbol counter. stops) in
+        let out = turn-sound x role s next left (given-first given) (λ symbol counter. leavesLoop) in
         let body = statements-right b (next + 1) (next + 2) _ more within (given-second given) (given-rest-two given) in
         loop-right s next (every-cons round (every-cons out every-nil)) body left (given-first given)
     statement-right (branch l o b a) s next rest more within left given =
@@ -280,7 +280,7 @@ module _ (x : Trial) (role : ℕ → Role) where
         (a : Arms) (s q next : ℕ) (rest : Statements) (more : List Role) {whole : Statement}
         → ArmsWithin (t .alphabet) a
         → role s ≡ leaves (whole then rest)
-        → ((b : Statements) → Arm b a → (symbol : Symbol) (counter : ℕ) → Turns symbol counter whole rest (b before rest))
+        → ((b : Statements) → Arm b a → (symbol : Symbol) (counter : ℕ) → Continues symbol counter whole rest (b before rest))
         → role q ≡ leaves rest
         → Given role next (armsRoles a rest more)
         → Right x role (armsPart (t .alphabet) a s q next) rest more

@@ -37,19 +37,19 @@ use Rattle.rule.specs.Meaning.{
   lastOne,
   thisOne,
   another,
-  Turns,
+  Continues,
   ifHolds,
   ifFails,
   whileHolds,
   whileFails,
   goesRound,
-  stops,
+  leavesLoop,
   firstArm,
   otherArm,
-  Standing,
+  ProgramSituation,
   does,
-  turns,
-  Comes,
+  continues,
+  ProgramReach,
   ProgramAccepts,
 }
 use Rattle.rule.proofs.Within.{ConditionWithin, PlainWithin, StatementWithin, RestWithin, StatementsWithin, ArmsWithin}
@@ -95,7 +95,7 @@ use Rattle.construction.proofs.Fragments.{
   has-arm,
   has-first,
   has-second,
-  Stands,
+  StandsFor,
   front,
   onward,
   block-stands,
@@ -232,7 +232,7 @@ module _ (x : Trial) where
   record Arrived (k : Statements) (cell counter : ℕ) : Type 0 where
     state : ℕ
     reached : At state cell counter
-    stands : Stands t state k
+    stands : StandsFor t state k
 
   -- a run of the table comes to the state where this statement's part starts
   record Starts (a : Statement) (rest : Statements) (cell counter : ℕ) : Type 0 where
@@ -241,15 +241,15 @@ module _ (x : Trial) where
     reached : At state cell counter
     within : StatementWithin (t .alphabet) a
     has : Has t (statementPart (t .alphabet) a state next)
-    after : Stands t next rest
+    after : StandsFor t next rest
 
   -- that state stands for the statement and the rest
-  again : {a : Statement} {rest : Statements} {cell counter : ℕ} (f : Starts a rest cell counter) → Stands t (f .state) (a then rest)
+  again : {a : Statement} {rest : Statements} {cell counter : ℕ} (f : Starts a rest cell counter) → StandsFor t (f .state) (a then rest)
   again f = front (f .next) (f .within) (f .has) (f .after)
 
   module _ {cell counter : ℕ} (inside : cell ≤ last word) (low : counter ≤ limit) where
     -- over free rows to where the first statement's part starts
-    settle : {s : ℕ} {a : Statement} {rest : Statements} → At s cell counter → Stands t s (a then rest) → Starts a rest cell counter
+    settle : {s : ℕ} {a : Statement} {rest : Statements} → At s cell counter → StandsFor t s (a then rest) → Starts a rest cell counter
     settle here (front {s = s} next within has after) =
         record { state = s; next = next; reached = here; within = within; has = has; after = after }
     settle here (onward m more) = settle (free-goes inside low _ _ m here) more
@@ -260,7 +260,7 @@ module _ (x : Trial) where
         → StatementsWithin (t .alphabet) b
         → Has t (statementsPart (t .alphabet) b s next)
         → IsRow t (free (statementsPart (t .alphabet) b s next .exit) q)
-        → Stands t q k
+        → StandsFor t q k
         → At s cell counter
         → Arrived (b before k) cell counter
     block-arrives b s q next within has out after here =
@@ -271,7 +271,7 @@ module _ (x : Trial) where
         (b : Statements) (p a q next : ℕ) {rest : Statements}
         → StatementsWithin (t .alphabet) b
         → Has t (armPart (statementsPart (t .alphabet) b a next) p a q)
-        → Stands t q rest
+        → StandsFor t q rest
         → At p cell counter
         → Arrived (b before rest) cell counter
     arm-arrives b p a q next within has after here =
@@ -284,7 +284,7 @@ module _ (x : Trial) where
         → Arm b a
         → ArmsWithin (t .alphabet) a
         → Has t (armsPart (t .alphabet) a p q next)
-        → Stands t q rest
+        → StandsFor t q rest
         → At p cell counter
         → Arrived (b before rest) cell counter
     unfolding armsPart ArmsWithin
@@ -300,7 +300,7 @@ module _ (x : Trial) where
         → ConditionWithin (t .alphabet) c
         → StatementsWithin (t .alphabet) b
         → HasIf t (test (t .alphabet) c p u v next) (statementsPart (t .alphabet) b u n) noPart q
-        → Stands t q rest
+        → StandsFor t q rest
         → At p cell counter
         → holds (symbolOn word cell) counter c ≡ true
         → Arrived (b before rest) cell counter
@@ -314,7 +314,7 @@ module _ (x : Trial) where
         → ConditionWithin (t .alphabet) c
         → RestWithin (t .alphabet) r
         → HasIf t (test (t .alphabet) c p u v next) yesPart (restPart (t .alphabet) r v n) q
-        → Stands t q rest
+        → StandsFor t q rest
         → At p cell counter
         → holds (symbolOn word cell) counter c ≡ false
         → Arrived (otherwise r before rest) cell counter
@@ -332,7 +332,7 @@ module _ (x : Trial) where
     -- a statement turns into others: over the rows of its test, or over a free row
     turns-arrives :
         {a : Statement} {rest k : Statements}
-        → Turns (symbolOn word cell) counter a rest k
+        → Continues (symbolOn word cell) counter a rest k
         → Starts a rest cell counter
         → Arrived k cell counter
     unfolding statementPart statementsPart StatementWithin StatementsWithin _before_
@@ -351,7 +351,7 @@ module _ (x : Trial) where
         let rows = has-loop _ (f .has) in
         block-arrives b _ _ _ (f .within) (rows .bodyHas) (rows .back) (again f)
         (free-goes inside low _ _ (every-head (rows .starting)) (f .reached))
-    turns-arrives stops f =
+    turns-arrives leavesLoop f =
         let rows = has-loop _ (f .has) in
         out-arrives f (free-goes inside low _ _ (every-head (every-tail (rows .starting))) (f .reached))
     turns-arrives (firstArm {b = b}) f =
@@ -404,16 +404,16 @@ module _ (x : Trial) where
   unfolding statementPart
   accept-accepts f = every-head (f .has .accepting)
 
-  module _ (body : Stands t 0 (x .program .body)) where
+  module _ (body : StandsFor t 0 (x .program .body)) where
     -- the table reaches what the program comes to
-    comes-arrives : {s : Standing} → Comes (x .program) word limit s → Arrived (s .left) (s .cell) (s .counter)
+    comes-arrives : {s : ProgramSituation} → ProgramReach (x .program) word limit s → Arrived (s .left) (s .cell) (s .counter)
     comes-arrives Meaning.begins = record { state = 0; reached = begins; stands = body }
     comes-arrives (Meaning.goes came (does h) low) =
         let f = comes-arrives came in
         let inside = comes-inside came in
         let low′ = comes-low came in
         plain-arrives inside low′ (rw (x .same) at h) low (settle inside low′ (f .reached) (f .stands))
-    comes-arrives (Meaning.goes came (turns h) low) =
+    comes-arrives (Meaning.goes came (continues h) low) =
         let f = comes-arrives came in
         let inside = comes-inside came in
         turns-arrives inside low h (settle inside low (f .reached) (f .stands))

@@ -11,7 +11,7 @@ use Rattle.table.specs.Table.{Table}
 use Rattle.cells.specs.Cell.{letter, rightMark, symbolOn, last}
 use Rattle.rule.specs.Tree.{Statements, done, _then_, Program}
 use Rattle.rule.specs.Limits.{faults}
-use Rattle.rule.specs.Meaning.{_before_, Standing, does, turns, Comes, begins, goes}
+use Rattle.rule.specs.Meaning.{_before_, ProgramSituation, does, continues, ProgramReach, begins, goes}
 use Rattle.rule.proofs.Within.{program-within}
 use Rattle.construction.specs.Construction.{construct}
 use Rattle.construction.proofs.Symbols.{Known}
@@ -71,16 +71,16 @@ before-done (a then b) = ap (λ (c : Statements). a then c) (before-done b)
 
 module _ {p : Program} {word : List ℕ} {limit : ℕ} where
   -- a run of the program stays on the word's cells
-  pub comes-inside : {s : Standing} → Comes p word limit s → s .cell ≤ last word
+  pub comes-inside : {s : ProgramSituation} → ProgramReach p word limit s → s .cell ≤ last word
   comes-inside begins = zero-le
   comes-inside (goes came (does {e = e} {cell = cell} h) low) = plain-inside word e cell (comes-inside came)
-  comes-inside (goes came (turns h) low) = comes-inside came
+  comes-inside (goes came (continues h) low) = comes-inside came
 
   -- and within the limit
-  pub comes-low : {s : Standing} → Comes p word limit s → s .counter ≤ limit
+  pub comes-low : {s : ProgramSituation} → ProgramReach p word limit s → s .counter ≤ limit
   comes-low begins = zero-le
   comes-low (goes came step low) = low
 
   -- a run begins with the whole body, and nothing after it
-  pub begins-whole : Comes p word limit (record { left = p .body before done; cell = 0; counter = 0 })
+  pub begins-whole : ProgramReach p word limit (record { left = p .body before done; cell = 0; counter = 0 })
   begins-whole = rw before-done begins

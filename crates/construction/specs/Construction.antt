@@ -8,7 +8,7 @@ use lib.Dec.{eqb}
 use Rattle.bits.specs.Bit.{withBit}
 use Rattle.table.specs.Table.{Row, Table}
 use Rattle.rule.specs.Tree.{
-  Sought,
+  SymbolName,
   letter,
   lend,
   rend,
@@ -111,7 +111,7 @@ unfoldable pub indexIn : List ℕ → ℕ → ℕ
 indexIn [] b = 0
 indexIn (x ∷ xs) b = elim (eqb b x) [ true ↦ 0 | false ↦ suc (indexIn xs b) ]
 
-unfoldable pub symbolCode : List ℕ → Sought → ℕ
+unfoldable pub symbolCode : List ℕ → SymbolName → ℕ
 symbolCode alphabet (letter l) = indexIn alphabet (l .byte)
 symbolCode alphabet lend = leftMark
 symbolCode alphabet rend = rightMark
@@ -134,10 +134,10 @@ symbolRows [] p q = []
 symbolRows (x ∷ xs) p q = testRow x eitherCounter p q ∷ symbolRows xs p q
 
 -- `==` one row, `!=` one row for each other symbol
-abbrev pub isRows : List ℕ → Sought → ℕ → ℕ → List Row
+abbrev pub isRows : List ℕ → SymbolName → ℕ → ℕ → List Row
 isRows alphabet x p q = symbolRows (symbolCode alphabet x ∷ []) p q
 
-abbrev pub isNotRows : List ℕ → Sought → ℕ → ℕ → List Row
+abbrev pub isNotRows : List ℕ → SymbolName → ℕ → ℕ → List Row
 isNotRows alphabet x p q = symbolRows (without (symbolCode alphabet x) (allSymbols alphabet)) p q
 
 -- an atom with its sign

@@ -13,7 +13,7 @@ use types.Run.{OneOf}
 use Rattle.bits.proofs.Tests.{sameList}
 use Rattle.text.specs.Token as Spelt
 use Rattle.text.specs.Token.{number, letter, sign, Spells, aSign}
-use Rattle.text.specs.First.{written, part, First}
+use Rattle.text.specs.First.{written, part, FirstToken}
 use Rattle.text.specs.declared.Sign.{Sign}
 use Rattle.text.specs.declared.Token.{Token}
 use Rattle.text.specs.declared.Token.the-variants as Token
@@ -21,7 +21,7 @@ use Rattle.text.proofs.Token as token-type
 use Rattle.text.proofs.Runs.{T-true}
 use Rattle.text.proofs.Same.{sameToken, same-token}
 use Rattle.rule.specs.Inside.Class as Class
-use Rattle.rule.specs.Inside.Class.{Mark, spell, Class, mark, other, tokenOf, classify, token-of-class, class-of-mark}
+use Rattle.rule.specs.Inside.Class.{Fixed, spell, Class, mark, other, tokenOf, classify, token-of-class, class-of-mark}
 use Rattle.rule.specs.Inside.Machine.{exact, Stack, Totals, choices, pick}
 use Rattle.reader.specs.Atom.{refusalOf}
 use Rattle.reader.specs.Inside.Answers.{Front, spot, totals, Ready, Answers}
@@ -54,7 +54,7 @@ module _ (text : List ℕ) {p q : ℕ} (some : p < q) (within : q ≤ length tex
       let here : p < length text = omega arith in
       rw (one, drop-cons text p 0)
 
-module _ (m : Mark) (l : List ℕ) (e : spell m ≡ sign l) (t : Totals) (p : ℕ) where
+module _ (m : Fixed) (l : List ℕ) (e : spell m ≡ sign l) (t : Totals) (p : ℕ) where
   other-sign : (k : Class) → ¬ (tokenOf k ≡ sign l) → pick (choices t p (exact m)) k ≡ none
   other-sign (mark n) h = go (sameToken (spell n) (spell m)) refl
     where
@@ -70,7 +70,7 @@ module _ (m : Mark) (l : List ℕ) (e : spell m ≡ sign l) (t : Totals) (p : �
       let same : sameToken (spell m) (spell m) ≡ true = rw e (T-true (sameList l l) (same-refl l)) in
       rw (same, pick)
 
-module _ {text : List ℕ} {from : ℕ} {b : ℕ} {m : Mark} (e : spell m ≡ sign (b ∷ [])) {k : Token} (f : First text from k) where
+module _ {text : List ℕ} {from : ℕ} {b : ℕ} {m : Fixed} (e : spell m ≡ sign (b ∷ [])) {k : Token} (f : FirstToken text from k) where
   -- a token that is no sign
   pub no-sign : {w y : Stack} {a : List ℕ} {t : Totals} {r : Refusal}
       → OneOf (0 ∷ 1 ∷ 2 ∷ 4 ∷ 5 ∷ []) (tagOf token-type.the-type k)
@@ -85,7 +85,7 @@ module _ {text : List ℕ} {from : ℕ} {b : ℕ} {m : Mark} (e : spell m ≡ si
           → r ≡ record { number = 4; place = p }
           → Answers text (spot from (exact m ∷ w) t) y a (Refused r)
       not-that h right =
-          let g = subst (λ (u : Token). First text from u) is f in
+          let g = subst (λ (u : Token). FirstToken text from u) is f in
           let differs : ¬ (tokenOf (classify (sign (written s))) ≡ sign (b ∷ [])) = λ same. h (spells-sign (g .begins .bytes) ∙ sign-one (sym (token-of-class (sign (written s))) ∙ same)) in
           refused g right (other-sign m (b ∷ []) e t p (classify (sign (written s))) differs)
 
@@ -112,7 +112,7 @@ module _ {text : List ℕ} {from : ℕ} {b : ℕ} {m : Mark} (e : spell m ≡ si
         → Answers text (spot from (exact m ∷ []) (totals a n)) [] a (Went q n)
     this {a} {n} one byte ready =
         let fr = front-sign f is in
-        let g = subst (λ (u : Token). First text from u) is f in
+        let g = subst (λ (u : Token). FirstToken text from u) is f in
         let bytes : part text p q ≡ b ∷ [] = part-one text (fr .some) (fr .within) one ∙ ap (λ (c : ℕ). c ∷ []) byte in
         let same : classify (sign (written s)) ≡ mark m = ap (λ (l : List ℕ). classify (sign l)) (sym (spells-sign (g .begins .bytes)) ∙ bytes) ∙ ap classify (sym e) ∙ class-of-mark m in
         step (subst (λ (c : Class). Front text from c p q) same fr) (that-sign m (b ∷ []) e (totals a n) p) refl refl (done ready)

@@ -10,7 +10,7 @@ use Rattle.bits.proofs.Tests.{every, and-left, and-right}
 use Rattle.text.specs.Token as Spelt
 use Rattle.text.specs.Token.{word, number, letter, sign}
 use Rattle.text.specs.Tokens.{Placed, Ending, Tokens}
-use Rattle.text.specs.First.{Name, reserved, unreserved, name, IsNamed, written, part, Next, First}
+use Rattle.text.specs.First.{Name, reserved, unreserved, name, IsNamed, written, part, Next, FirstToken}
 use Rattle.text.specs.declared.Word.{Word}
 use Rattle.text.specs.declared.Word.the-variants as Word
 use Rattle.text.specs.declared.Sign.{Sign}
@@ -19,7 +19,7 @@ use Rattle.text.specs.declared.Token.the-variants as Token
 use Rattle.text.proofs.Same.{sameToken, same-token}
 use Rattle.text.proofs.Follow.{first-onward}
 use Rattle.rule.specs.Inside.Class as Class
-use Rattle.rule.specs.Inside.Class.{Mark, spell, Class, mark, other, find, classify}
+use Rattle.rule.specs.Inside.Class.{Fixed, spell, Class, mark, other, find, classify}
 use Rattle.reader.specs.Inside.Answers.{Front}
 
 -- the class of a word that is written so
@@ -38,34 +38,34 @@ classOf text (Token.Broken p) = other (sign [])
 
 -- the reserved words, each with its mark, in the order in which `classify` goes through them
 pub record Reserved : Type 0 where
-  pub mark : Mark
+  pub mark : Fixed
   pub reads : Word
 
-abbrev pair : Mark → Word → Reserved
+abbrev pair : Fixed → Word → Reserved
 pair m x = record { mark = m; reads = x }
 
 abbrev words : List Reserved
 words =
-    pair Mark.alphabet Word.Alphabet
-    ∷ pair Mark.decrOnZero Word.DecrOnZero
-    ∷ pair Mark.isTrue Word.True
-    ∷ pair Mark.isFalse Word.False
-    ∷ pair Mark.twoc Word.Twoc
-    ∷ pair Mark.string Word.String
-    ∷ pair Mark.move Word.Move
-    ∷ pair Mark.goto Word.Goto
-    ∷ pair Mark.lend Word.Lend
-    ∷ pair Mark.rend Word.Rend
-    ∷ pair Mark.c Word.C
-    ∷ pair Mark.accept Word.Accept
-    ∷ pair Mark.reject Word.Reject
-    ∷ pair Mark.if Word.If
-    ∷ pair Mark.else Word.Else
-    ∷ pair Mark.while Word.While
-    ∷ pair Mark.choose Word.Choose
-    ∷ pair Mark.branch Word.Branch
-    ∷ pair Mark.also Word.Also
-    ∷ pair Mark.read Word.Read
+    pair Fixed.alphabet Word.Alphabet
+    ∷ pair Fixed.decrOnZero Word.DecrOnZero
+    ∷ pair Fixed.isTrue Word.True
+    ∷ pair Fixed.isFalse Word.False
+    ∷ pair Fixed.twoc Word.Twoc
+    ∷ pair Fixed.string Word.String
+    ∷ pair Fixed.move Word.Move
+    ∷ pair Fixed.goto Word.Goto
+    ∷ pair Fixed.lend Word.Lend
+    ∷ pair Fixed.rend Word.Rend
+    ∷ pair Fixed.c Word.C
+    ∷ pair Fixed.accept Word.Accept
+    ∷ pair Fixed.reject Word.Reject
+    ∷ pair Fixed.if Word.If
+    ∷ pair Fixed.else Word.Else
+    ∷ pair Fixed.while Word.While
+    ∷ pair Fixed.choose Word.Choose
+    ∷ pair Fixed.branch Word.Branch
+    ∷ pair Fixed.also Word.Also
+    ∷ pair Fixed.read Word.Read
     ∷ []
 
 abbrev nameToken : Name → Spelt.Token
@@ -123,41 +123,41 @@ module _ {text : List ℕ} {from : ℕ} where
       }
 
   pub front-word : {p q : ℕ} {x : Word} {t : Token}
-      → First text from t
+      → FirstToken text from t
       → t ≡ Token.Word p q x
       → Front text from (named (name x) (part text p q)) p q
   front-word {p} {q} {x} f e =
-      let g = subst (λ (t : Token). First text from t) e f in
+      let g = subst (λ (t : Token). FirstToken text from t) e f in
       next-front (g .all) (g .begins .next) (named-class (name x) (part text p q) (g .begins .which)) (first-onward g)
 
-  pub front-number : {p q : ℕ} {t : Token} → First text from t → t ≡ Token.Number p q → Front text from (Class.number (part text p q)) p q
+  pub front-number : {p q : ℕ} {t : Token} → FirstToken text from t → t ≡ Token.Number p q → Front text from (Class.number (part text p q)) p q
   front-number f e =
-      let g = subst (λ (t : Token). First text from t) e f in
+      let g = subst (λ (t : Token). FirstToken text from t) e f in
       next-front (g .all) (g .begins) refl (first-onward g)
 
-  pub front-letter : {p q b : ℕ} {t : Token} → First text from t → t ≡ Token.Letter p q b → Front text from (Class.letter b) p q
+  pub front-letter : {p q b : ℕ} {t : Token} → FirstToken text from t → t ≡ Token.Letter p q b → Front text from (Class.letter b) p q
   front-letter f e =
-      let g = subst (λ (t : Token). First text from t) e f in
+      let g = subst (λ (t : Token). FirstToken text from t) e f in
       next-front (g .all) (g .begins) refl (first-onward g)
 
   pub front-sign : {p q : ℕ} {x : Sign} {t : Token}
-      → First text from t
+      → FirstToken text from t
       → t ≡ Token.Sign p q x
       → Front text from (classify (sign (written x))) p q
   front-sign f e =
-      let g = subst (λ (t : Token). First text from t) e f in
+      let g = subst (λ (t : Token). FirstToken text from t) e f in
       next-front (g .all) (g .begins) refl (first-onward g)
 
   -- and which word or sign it is
   pub told-word : {p q : ℕ} {x y : Word} {t : Token}
-      → First text from t
+      → FirstToken text from t
       → t ≡ Token.Word p q x
       → x ≡ y
       → Front text from (named (name y) (part text p q)) p q
   told-word {p} {q} f e same = front-word f (e ∙ ap (λ (x : Word). Token.Word p q x) same)
 
   pub told-sign : {p q : ℕ} {x y : Sign} {t : Token}
-      → First text from t
+      → FirstToken text from t
       → t ≡ Token.Sign p q x
       → x ≡ y
       → Front text from (classify (sign (written y))) p q

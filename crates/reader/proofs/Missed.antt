@@ -12,7 +12,7 @@ use denote.Enum.Declared.{tagOf}
 use types.Run.{OneOf}
 use Rattle.text.specs.Token as Spelt
 use Rattle.text.specs.Token.{word, number, letter, sign}
-use Rattle.text.specs.First.{Name, reserved, unreserved, name, written, part, First}
+use Rattle.text.specs.First.{Name, reserved, unreserved, name, written, part, FirstToken}
 use Rattle.text.specs.declared.Word.{Word}
 use Rattle.text.specs.declared.Sign.{Sign}
 use Rattle.text.specs.declared.Token.{Token}
@@ -24,7 +24,7 @@ use Rattle.text.proofs.Same.{sameToken, same-token}
 use Rattle.text.proofs.Follow.{placeOf}
 use Rattle.rule.specs.Inside.Class as Class
 use Rattle.rule.specs.Inside.Class.{spell, Class, mark, other, tokenOf, classify, token-of-class}
-use Rattle.rule.specs.Inside.Machine.{Symbol, Stack, Totals, Move, Choice, on, onNumber, onLetter, choices, take, pick, run}
+use Rattle.rule.specs.Inside.Machine.{Expected, Stack, Totals, Move, Choice, on, onNumber, onLetter, choices, take, pick, run}
 use Rattle.reader.specs.Atom.{refusalOf}
 use Rattle.reader.specs.Inside.Answers.{spot, Stops, Answers}
 use Rattle.reader.specs.declared.answers.Refusal.{Refusal}
@@ -84,7 +84,7 @@ is-none none e = refl
 is-none (some a) e = let no : _≡_ {A = ℕ} 0 1 = cc in absurd (omega arith)
 
 -- no choice takes this token
-abbrev pub Misses : List ℕ → Totals → Symbol → Token → Type 0
+abbrev pub Misses : List ℕ → Totals → Expected → Token → Type 0
 Misses text t x (Token.Word p q w) = pick (choices t p x) (classOf text (Token.Word p q w)) ≡ none
 Misses text t x (Token.Number p q) = pick (choices t p x) (classOf text (Token.Number p q)) ≡ none
 Misses text t x (Token.Letter p q b) = pick (choices t p x) (classOf text (Token.Letter p q b)) ≡ none
@@ -97,17 +97,17 @@ sort-named (reserved b) l = ap sort (token-of-class (word b))
 sort-named unreserved l = refl
 
 -- the sorts of tokens, the signs and the words that a symbol does not take
-abbrev pub sortsLeft : Totals → Symbol → Token → List ℕ
+abbrev pub sortsLeft : Totals → Expected → Token → List ℕ
 sortsLeft t x k = passing (untaken (choices t (placeOf k) x)) 0 6
 
-abbrev pub missesSign : Totals → Symbol → ℕ → Sign → Bool
+abbrev pub missesSign : Totals → Expected → ℕ → Sign → Bool
 missesSign t x p s = isNone (pick (choices t p x) (classify (sign (written s))))
 
-abbrev pub missesWord : Totals → Symbol → ℕ → List ℕ → Word → Bool
+abbrev pub missesWord : Totals → Expected → ℕ → List ℕ → Word → Bool
 missesWord t x p l w = isNone (pick (choices t p x) (named (name w) l))
 
 -- no choice takes it, since nothing of its sort is taken, or of its sort another token only
-module _ (text : List ℕ) (x : Symbol) (t : Totals) where
+module _ (text : List ℕ) (x : Expected) (t : Totals) where
   pub missed-sort : (k : Token) → OneOf (sortsLeft t x k) (tagOf token-type.the-type k) → Misses text t x k
   missed-sort (Token.Word p q w) e =
       untaken-none (choices t p x) (classOf text (Token.Word p q w)) (rw (sort-named (name w) (part text p q)) (left-passes (untaken (choices t p x)) 0 6 0 e))
@@ -129,8 +129,8 @@ module _ (text : List ℕ) (x : Symbol) (t : Totals) where
   missed-word p q v e =
       is-none (pick (choices t p x) (named (name v) (part text p q))) (value-left word-type.enum (missesWord t x p (part text p q)) v tt e)
 
-module _ {text : List ℕ} {from : ℕ} {x : Symbol} {t : Totals} where
-  pub missed : (k : Token) → First text from k → Misses text t x k → Stops text (spot from (x ∷ []) t) (refusalOf k)
+module _ {text : List ℕ} {from : ℕ} {x : Expected} {t : Totals} where
+  pub missed : (k : Token) → FirstToken text from k → Misses text t x k → Stops text (spot from (x ∷ []) t) (refusalOf k)
   unfolding run
   missed (Token.Word p q w) f h = misses x t (front-word f refl) h
   missed (Token.Number p q) f h = misses x t (front-number f refl) h
@@ -151,7 +151,7 @@ module _ {text : List ℕ} {from : ℕ} {x : Symbol} {t : Totals} where
         same = λ st. rw (f .begins .none, f .begins .ended, run);
       }
 
-  module _ {w y : Stack} {b : List ℕ} {k : Token} {r : Refusal} (f : First text from k) where
+  module _ {w y : Stack} {b : List ℕ} {k : Token} {r : Refusal} (f : FirstToken text from k) where
     pub refused : r ≡ refusalOf k → Misses text t x k → Answers text (spot from (x ∷ w) t) y b (Refused r)
     refused right h = record { right = rw right (under-stops w (missed k f h)) }
 
@@ -160,17 +160,17 @@ module _ {text : List ℕ} {from : ℕ} {x : Symbol} {t : Totals} where
         → Answers text (spot from (x ∷ w) t) y b (Refused r)
     refuses e right = refused right (missed-sort text x t k e)
 
-  module _ {w y : Stack} {b : List ℕ} {k : Token} {r : Refusal} {p q : ℕ} (f : First text from k) where
+  module _ {w y : Stack} {b : List ℕ} {k : Token} {r : Refusal} {p q : ℕ} (f : FirstToken text from k) where
     pub refuses-sign : {s : Sign}
         → k ≡ Token.Sign p q s
         → OneOf (valuesLeft sign-type.enum (missesSign t x p)) (tagOf sign-type.the-type s)
         → r ≡ record { number = 4; place = p }
         → Answers text (spot from (x ∷ w) t) y b (Refused r)
-    refuses-sign {s} e h right = refused (subst (λ (u : Token). First text from u) e f) right (missed-sign text x t p q s h)
+    refuses-sign {s} e h right = refused (subst (λ (u : Token). FirstToken text from u) e f) right (missed-sign text x t p q s h)
 
     pub refuses-word : {v : Word}
         → k ≡ Token.Word p q v
         → OneOf (valuesLeft word-type.enum (missesWord t x p (part text p q))) (tagOf word-type.the-type v)
         → r ≡ record { number = 4; place = p }
         → Answers text (spot from (x ∷ w) t) y b (Refused r)
-    refuses-word {v} e h right = refused (subst (λ (u : Token). First text from u) e f) right (missed-word text x t p q v h)
+    refuses-word {v} e h right = refused (subst (λ (u : Token). FirstToken text from u) e f) right (missed-word text x t p q v h)

@@ -10,9 +10,9 @@ use Rattle.text.specs.Tokens.{Placed, _at_, Ending, Tokens}
 use Rattle.text.proofs.Scan.{scanFrom}
 use Rattle.text.proofs.Tokens.{scanFrom-right, tokens-once}
 use Rattle.rule.specs.Inside.Class.{Class}
-use Rattle.rule.specs.Inside.Machine.{Symbol, Stack, Value, Totals, Move, choices, pick, move}
+use Rattle.rule.specs.Inside.Machine.{Expected, Stack, Value, Totals, Move, choices, pick, move}
 use Rattle.rule.proofs.Machine.Steps.{run-stops, run-breaks, run-passes}
-use Rattle.reader.specs.Inside.Answers.{Front, Spot, spot, totals, Comes, Stops, Ready, Answers, Past, Eats}
+use Rattle.reader.specs.Inside.Answers.{Front, Spot, spot, totals, ComesTo, Stops, Ready, Answers, Past, Eats}
 use Rattle.reader.specs.declared.answers.Counts.{Counts}
 use Rattle.reader.specs.declared.answers.Refusal.{Refusal}
 use Rattle.reader.specs.declared.answers.Read.{Read}
@@ -26,11 +26,11 @@ tokens-there text from =
 
 module _ {text : List ℕ} where
   -- one move of the machine, by the class of the token
-  module _ {from p q : ℕ} {k : Class} (x : Symbol) (t : Totals) (f : Front text from k p q) where
+  module _ {from p q : ℕ} {k : Class} (x : Expected) (t : Totals) (f : Front text from k p q) where
     pub goes : {m : Move (Value x)}
         → pick (choices t p x) k ≡ some m
         → m .breaks ≡ false
-        → Comes text (spot from (x ∷ []) t) (spot q (m .push) (m .totals))
+        → ComesTo text (spot from (x ∷ []) t) (spot q (m .push) (m .totals))
     unfolding move
     goes {m} h b =
         record {
@@ -68,8 +68,8 @@ module _ {text : List ℕ} where
 
   -- more is expected behind
   under : {s z : Spot} (w : Stack)
-      → Comes text s z
-      → Comes text (spot (s .from) (s .expects ++ w) (s .totals)) (spot (z .from) (z .expects ++ w) (z .totals))
+      → ComesTo text s z
+      → ComesTo text (spot (s .from) (s .expects ++ w) (s .totals)) (spot (z .from) (z .expects ++ w) (z .totals))
   under {s} {z} w h =
       record {
         before = h .before;
@@ -91,7 +91,7 @@ module _ {text : List ℕ} where
       }
 
   -- from spot to spot, and on
-  pub comes-then : {s y z : Spot} → Comes text s y → Comes text y z → Comes text s z
+  pub comes-then : {s y z : Spot} → ComesTo text s y → ComesTo text y z → ComesTo text s z
   comes-then {s} {y} {z} g h =
       let once = tokens-once (g .there) (h .here) in
       record {
@@ -104,7 +104,7 @@ module _ {text : List ℕ} where
         forth = omega (arith, g .forth, h .forth);
       }
 
-  pub comes-stops : {s y : Spot} {r : Refusal} → Comes text s y → Stops text y r → Stops text s r
+  pub comes-stops : {s y : Spot} {r : Refusal} → ComesTo text s y → Stops text y r → Stops text s r
   comes-stops {s} {y} g h =
       let once = tokens-once (g .there) (h .here) in
       record {
@@ -114,7 +114,7 @@ module _ {text : List ℕ} where
         same = λ st. g .same st ∙ rw (once .0, once .1) (h .same st);
       }
 
-  pub stand : (s : Spot) → Comes text s s
+  pub stand : (s : Spot) → ComesTo text s s
   stand s =
       let there = tokens-there text (s .from) in
       record {
@@ -128,20 +128,20 @@ module _ {text : List ℕ} where
       }
 
   -- a token taken
-  pub moves : {from p q : ℕ} {k : Class} {x : Symbol} {t : Totals} {m : Move (Value x)} {w : Stack} {n : Totals}
+  pub moves : {from p q : ℕ} {k : Class} {x : Expected} {t : Totals} {m : Move (Value x)} {w : Stack} {n : Totals}
       → Front text from k p q
       → pick (choices t p x) k ≡ some m
       → m .breaks ≡ false
       → m .totals ≡ n
-      → Comes text (spot from (x ∷ w) t) (spot q (m .push ++ w) n)
+      → ComesTo text (spot from (x ∷ w) t) (spot q (m .push ++ w) n)
   moves {from} {q = q} {x = x} {t = t} {m = m} {w = w} f h l e =
-      subst (λ (n : Totals). Comes text (spot from (x ∷ w) t) (spot q (m .push ++ w) n)) e (under w (goes x t f h l))
+      subst (λ (n : Totals). ComesTo text (spot from (x ∷ w) t) (spot q (m .push ++ w) n)) e (under w (goes x t f h l))
 
   -- what was called has read something
   pub went : {from q : ℕ} {x z : Stack} {t : Totals} {a : List ℕ} {u : Read} {n : Counts} (w : Stack)
       → Answers text (spot from x t) z a u
       → u ≡ Went q n
-      → Comes text (spot from (x ++ w) t) (spot q (z ++ w) (totals a n))
+      → ComesTo text (spot from (x ++ w) t) (spot q (z ++ w) (totals a n))
   went {from} {x = x} {z = z} {t = t} {a = a} w h e =
       under w (subst (λ (v : Read). Answers text (spot from x t) z a v) e h .right .comes)
 
@@ -154,7 +154,7 @@ module _ {text : List ℕ} where
 
   module _ {y : Stack} {b : List ℕ} where
     -- what is answered from a spot is answered from where the machine comes to it
-    pub onward : {s z : Spot} {r : Read} → Comes text s z → Answers text z y b r → Answers text s y b r
+    pub onward : {s z : Spot} {r : Read} → ComesTo text s z → Answers text z y b r → Answers text s y b r
     onward {r = Went q n} g h =
         record { right = record { comes = comes-then g (h .right .comes); ready = h .right .ready } }
     onward {r = Refused r} g h = record { right = comes-stops g (h .right) }
@@ -164,7 +164,7 @@ module _ {text : List ℕ} where
     done h = record { right = record { comes = stand _; ready = h } }
 
     -- a token taken, and the rest
-    pub step : {from p q : ℕ} {k : Class} {x : Symbol} {t : Totals} {m : Move (Value x)} {w : Stack} {n : Totals} {r : Read}
+    pub step : {from p q : ℕ} {k : Class} {x : Expected} {t : Totals} {m : Move (Value x)} {w : Stack} {n : Totals} {r : Read}
         → Front text from k p q
         → pick (choices t p x) k ≡ some m
         → m .breaks ≡ false
@@ -194,12 +194,12 @@ module _ {text : List ℕ} where
     pub stay : {from q : ℕ} {x z : Stack} {t : Totals} {u : Read} {n : Counts} (w : Stack)
         → Answers text (spot from x t) z b u
         → u ≡ Went q n
-        → Comes text (spot q (z ++ w) (totals b n)) (spot q y (totals b n))
+        → ComesTo text (spot q (z ++ w) (totals b n)) (spot q y (totals b n))
         → Answers text (spot from (x ++ w) t) y b (Went q n)
     stay w h e g = then w h e (onward g (done (went-ready h e)))
 
     -- a limit is broken
-    pub break : {from p q : ℕ} {k : Class} {x : Symbol} {t : Totals} {m : Move (Value x)} {w : Stack}
+    pub break : {from p q : ℕ} {k : Class} {x : Expected} {t : Totals} {m : Move (Value x)} {w : Stack}
         → Front text from k p q
         → pick (choices t p x) k ≡ some m
         → m .breaks ≡ true
@@ -218,7 +218,7 @@ module _ {text : List ℕ} where
   answers-past (Refused r) h g = tt
 
   -- a token taken, and the rest: that is past it
-  pub eats : {y : Stack} {b : List ℕ} {from p q : ℕ} {k : Class} {x : Symbol} {t : Totals} {m : Move (Value x)} {w : Stack} {n : Totals} {r : Read}
+  pub eats : {y : Stack} {b : List ℕ} {from p q : ℕ} {k : Class} {x : Expected} {t : Totals} {m : Move (Value x)} {w : Stack} {n : Totals} {r : Read}
       → Front text from k p q
       → pick (choices t p x) k ≡ some m
       → m .breaks ≡ false

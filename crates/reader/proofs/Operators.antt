@@ -9,7 +9,7 @@ use lib.Dec.{leb}
 use borrow.Author.Tests.{le-leb, lt-leb}
 use denote.Enum.Declared.{tagOf}
 use types.Run.{OneOf, miss}
-use Rattle.text.specs.First.{First}
+use Rattle.text.specs.First.{FirstToken}
 use Rattle.text.specs.declared.Sign.{Sign}
 use Rattle.text.specs.declared.Sign.the-variants as Sign
 use Rattle.text.specs.declared.Token.{Token}
@@ -17,7 +17,7 @@ use Rattle.text.specs.declared.Token.the-variants as Token
 use Rattle.text.proofs.Sign as sign-type
 use Rattle.text.proofs.Token as token-type
 use Rattle.rule.specs.Inside.Machine.{operand, tail}
-use Rattle.reader.specs.Inside.Answers.{spot, totals, Comes}
+use Rattle.reader.specs.Inside.Answers.{spot, totals, ComesTo}
 use Rattle.reader.specs.Inside.Atoms.{isSign, NoSign}
 use Rattle.reader.specs.declared.answers.Counts.{Counts}
 use Rattle.reader.proofs.Arms.{by-number}
@@ -36,7 +36,7 @@ pub one-deeper : (left : ℕ) → ¬ (left ≡ 0) → left ≤ 16 → 16 - (left
 one-deeper left h most = omega arith
 
 pub no-sign-first : {text : List ℕ} {from : ℕ} {k : Token}
-    → First text from k
+    → FirstToken text from k
     → OneOf (0 ∷ 1 ∷ 2 ∷ 4 ∷ 5 ∷ []) (tagOf token-type.the-type k)
     → NoSign text from
 no-sign-first {k = k} f e = record { token = k; first = f; none = go k e }
@@ -51,11 +51,11 @@ no-sign-first {k = k} f e = record { token = k; first = f; none = go k e }
 
 -- `&&` or `||`, and then an operand
 pub joins : {text : List ℕ} {from p q d : ℕ} {k : Token} {s : Sign} {a : List ℕ} {n l : Counts}
-    → First text from k
+    → FirstToken text from k
     → k ≡ Token.Sign p q s
     → OneOf (4 ∷ 5 ∷ []) (tagOf sign-type.the-type s)
     → l ≡ record { states = n .states + 1; rows = n .rows + 0 }
-    → Comes text (spot from (tail d ∷ []) (totals a n)) (spot q (operand d ∷ tail d ∷ []) (totals a l))
+    → ComesTo text (spot from (tail d ∷ []) (totals a n)) (spot q (operand d ∷ tail d ∷ []) (totals a l))
 joins {s = s} {a = a} f is e more =
     ⊎-elim
     (λ h. moves (told-sign f is (by-number sign-type.enum s Sign.And tt h)) refl refl (counts-plus a more))

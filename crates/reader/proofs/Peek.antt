@@ -11,7 +11,7 @@ use types.Run.{OneOf}
 use Rattle.text.specs.Token as Spelt
 use Rattle.text.specs.Token.{word, sign}
 use Rattle.text.specs.Tokens.{Placed, _at_, Ending, ends, broken}
-use Rattle.text.specs.First.{Name, reserved, name, IsNamed, IsWord, written, part, Begins, First}
+use Rattle.text.specs.First.{Name, reserved, name, IsNamed, IsWord, written, part, Begins, FirstToken}
 use Rattle.text.specs.declared.Word.{Word}
 use Rattle.text.specs.declared.Token.{Token}
 use Rattle.text.specs.declared.Token.the-variants as Token
@@ -21,16 +21,16 @@ use Rattle.text.proofs.Runs.{T-true}
 use Rattle.text.proofs.Same.{sameToken, same-token}
 use Rattle.text.proofs.Named.{word-is}
 use Rattle.rule.specs.Inside.Class as Class
-use Rattle.rule.specs.Inside.Class.{Mark, spell, Class, mark, other, tokenOf, classify, token-of-class}
-use Rattle.rule.specs.Inside.Machine.{Symbol, exact, distance, number, orElse, orAlso, statements, Stack, Totals, outside, choices, pick, move, run}
+use Rattle.rule.specs.Inside.Class.{Fixed, spell, Class, mark, other, tokenOf, classify, token-of-class}
+use Rattle.rule.specs.Inside.Machine.{Expected, exact, distance, number, orElse, orAlso, statements, Stack, Totals, outside, choices, pick, move, run}
 use Rattle.rule.proofs.Machine.Steps.{run-stops, run-breaks, run-passes}
 use Rattle.rule.proofs.Machine.Follow.{unlike, notFirst, run-no-else, run-no-also}
-use Rattle.reader.specs.Inside.Answers.{spot, Comes}
+use Rattle.reader.specs.Inside.Answers.{spot, ComesTo}
 use Rattle.reader.proofs.Arms.{passing, left-passes, valuesLeft, value-left}
 use Rattle.reader.proofs.Missed.{sort}
 
 -- a token that is not the mark is none of its class
-unlike-other : (m : Mark) (k : Class) → ¬ (tokenOf k ≡ spell m) → T (unlike m k)
+unlike-other : (m : Fixed) (k : Class) → ¬ (tokenOf k ≡ spell m) → T (unlike m k)
 unlike-other m (mark n) h = go (sameToken (spell n) (spell m)) refl
   where
     go : (b : Bool) → sameToken (spell n) (spell m) ≡ b → T (not b)
@@ -40,14 +40,14 @@ unlike-other m (Class.number l) h = tt
 unlike-other m (Class.letter b) h = tt
 unlike-other m (other u) h = tt
 
-not-mark : (m : Mark) (u : Spelt.Token) → ¬ (u ≡ spell m) → T (unlike m (classify u))
+not-mark : (m : Fixed) (u : Spelt.Token) → ¬ (u ≡ spell m) → T (unlike m (classify u))
 not-mark m u h = unlike-other m (classify u) (λ e. h (sym (token-of-class u) ∙ e))
 
 -- the sorts of tokens that the mark is not
-abbrev pub otherSorts : Mark → List ℕ
+abbrev pub otherSorts : Fixed → List ℕ
 otherSorts m = passing (λ n. not (eqb n (sort (spell m)))) 0 6
 
-other-sort : (m : Mark) (n : ℕ) (u : Spelt.Token) → OneOf (otherSorts m) n → sort u ≡ n → ¬ (u ≡ spell m)
+other-sort : (m : Fixed) (n : ℕ) (u : Spelt.Token) → OneOf (otherSorts m) n → sort u ≡ n → ¬ (u ≡ spell m)
 other-sort m n u e s same =
     T-not (eqb n (sort (spell m))) (left-passes (λ (i : ℕ). not (eqb i (sort (spell m)))) 0 6 n e) (rw (← s, same) (eqb-refl (sort (spell m))))
 
@@ -57,9 +57,9 @@ word-one e = cc
 abbrev pub otherThan : Word → Word → Bool
 otherThan y v = not (eqb (tagOf word-type.the-type v) (tagOf word-type.the-type y))
 
-module _ {text : List ℕ} {from : ℕ} (m : Mark) where
+module _ {text : List ℕ} {from : ℕ} (m : Fixed) where
   -- what comes first is of another sort
-  pub not-sort : (k : Token) (f : First text from k) → OneOf (otherSorts m) (tagOf token-type.the-type k) → T (notFirst m (f .tokens))
+  pub not-sort : (k : Token) (f : FirstToken text from k) → OneOf (otherSorts m) (tagOf token-type.the-type k) → T (notFirst m (f .tokens))
   not-sort (Token.Word p q x) f e = rw (f .begins .next .first) (not-mark m (word (part text p q)) (other-sort m 0 (word (part text p q)) e refl))
   not-sort (Token.Number p q) f e = rw (f .begins .first) tt
   not-sort (Token.Letter p q b) f e = rw (f .begins .first) tt
@@ -68,7 +68,7 @@ module _ {text : List ℕ} {from : ℕ} (m : Mark) where
   not-sort (Token.Broken p) f e = rw (f .begins .none) tt
 
   -- or it is another word
-  pub not-word : {p q : ℕ} {k : Token} {x : Word} (y : Word) (l : List ℕ) (f : First text from k)
+  pub not-word : {p q : ℕ} {k : Token} {x : Word} (y : Word) (l : List ℕ) (f : FirstToken text from k)
       → name y ≡ reserved l
       → spell m ≡ word l
       → k ≡ Token.Word p q x
@@ -86,10 +86,10 @@ module _ {text : List ℕ} {from : ℕ} (m : Mark) where
       true≢false (sym (value-left word-type.enum (otherThan y) x tt h) ∙ ap not (ap (λ (v : Word). eqb (tagOf word-type.the-type v) (tagOf word-type.the-type y)) once ∙ T-true _ (eqb-refl (tagOf word-type.the-type y))))))
 
 -- where a mark does not come first, what is expected is the rest
-peek : {text : List ℕ} {from : ℕ} {k : Token} {x : Symbol} {y : Stack} {t : Totals} (m : Mark) (f : First text from k)
+peek : {text : List ℕ} {from : ℕ} {k : Token} {x : Expected} {y : Stack} {t : Totals} (m : Fixed) (f : FirstToken text from k)
     → T (notFirst m (f .tokens))
     → ((st : Stack) (ts : List Placed) (e : Ending) → T (notFirst m ts) → run (x ∷ st) t ts e ≡ run (y ++ st) t ts e)
-    → Comes text (spot from (x ∷ []) t) (spot from y t)
+    → ComesTo text (spot from (x ∷ []) t) (spot from y t)
 peek m f n h =
     record {
       before = f .tokens;
@@ -104,9 +104,9 @@ peek m f n h =
 -- without a `-`, a distance is a number
 module _ (t : Totals) (st : Stack) (u : Spelt.Token) (p : ℕ) (us : List Placed) (e : Ending) where
   abbrev behindNumber : Stack
-  behindNumber = exact Mark.closes ∷ exact Mark.semicolon ∷ st
+  behindNumber = exact Fixed.closes ∷ exact Fixed.semicolon ∷ st
 
-  no-minus : (m : Mark) (b : Bool) → sameToken (spell m) (spell Mark.minus) ≡ b → T (not b) → pick (choices t p distance) (mark m) ≡ none
+  no-minus : (m : Fixed) (b : Bool) → sameToken (spell m) (spell Fixed.minus) ≡ b → T (not b) → pick (choices t p distance) (mark m) ≡ none
   no-minus m true s h = absurd h
   no-minus m false s h = rw (s, pick)
 
@@ -131,33 +131,33 @@ module _ (t : Totals) (st : Stack) (u : Spelt.Token) (p : ℕ) (us : List Placed
 
   no-minus-first : (k : Class)
       → classify u ≡ k
-      → T (unlike Mark.minus k)
+      → T (unlike Fixed.minus k)
       → run (distance ∷ st) t ((u at p) ∷ us) e ≡ run (number 63 ∷ behindNumber) t ((u at p) ∷ us) e
-  no-minus-first (mark m) is n = as-other (mark m) is (no-minus m (sameToken (spell m) (spell Mark.minus)) refl n) refl
+  no-minus-first (mark m) is n = as-other (mark m) is (no-minus m (sameToken (spell m) (spell Fixed.minus)) refl n) refl
   no-minus-first (Class.number l) is n = as-number l (outside 63 l) is refl
   no-minus-first (Class.letter b) is n = as-other (Class.letter b) is refl refl
   no-minus-first (other v) is n = as-other (other v) is refl refl
 
 run-no-minus : (t : Totals) (st : Stack) (ts : List Placed) (e : Ending)
-    → T (notFirst Mark.minus ts)
-    → run (distance ∷ st) t ts e ≡ run (number 63 ∷ exact Mark.closes ∷ exact Mark.semicolon ∷ st) t ts e
+    → T (notFirst Fixed.minus ts)
+    → run (distance ∷ st) t ts e ≡ run (number 63 ∷ exact Fixed.closes ∷ exact Fixed.semicolon ∷ st) t ts e
 unfolding run
 run-no-minus t st [] (ends p) n = refl
 run-no-minus t st [] (broken p) n = refl
 run-no-minus t st ((u at p) ∷ us) e n = no-minus-first t st u p us e (classify u) refl n
 
-module _ {text : List ℕ} {from : ℕ} {k : Token} (f : First text from k) where
+module _ {text : List ℕ} {from : ℕ} {k : Token} (f : FirstToken text from k) where
   pub no-minus-here : {t : Totals}
-      → T (notFirst Mark.minus (f .tokens))
-      → Comes text (spot from (distance ∷ []) t) (spot from (number 63 ∷ exact Mark.closes ∷ exact Mark.semicolon ∷ []) t)
-  no-minus-here {t} n = peek Mark.minus f n (λ st ts e h. run-no-minus t st ts e h)
+      → T (notFirst Fixed.minus (f .tokens))
+      → ComesTo text (spot from (distance ∷ []) t) (spot from (number 63 ∷ exact Fixed.closes ∷ exact Fixed.semicolon ∷ []) t)
+  no-minus-here {t} n = peek Fixed.minus f n (λ st ts e h. run-no-minus t st ts e h)
 
   pub no-else-here : {t : Totals} {d : ℕ}
-      → T (notFirst Mark.else (f .tokens))
-      → Comes text (spot from (orElse d ∷ []) t) (spot from (statements d ∷ []) t)
-  no-else-here {t} {d} n = peek Mark.else f n (λ st ts e h. run-no-else d st t ts e h)
+      → T (notFirst Fixed.else (f .tokens))
+      → ComesTo text (spot from (orElse d ∷ []) t) (spot from (statements d ∷ []) t)
+  no-else-here {t} {d} n = peek Fixed.else f n (λ st ts e h. run-no-else d st t ts e h)
 
   pub no-also-here : {t : Totals} {d n : ℕ}
-      → T (notFirst Mark.also (f .tokens))
-      → Comes text (spot from (orAlso d n ∷ []) t) (spot from (statements d ∷ []) t)
-  no-also-here {t} {d} {n} h = peek Mark.also f h (λ st ts e g. run-no-also d n st t ts e g)
+      → T (notFirst Fixed.also (f .tokens))
+      → ComesTo text (spot from (orAlso d n ∷ []) t) (spot from (statements d ∷ []) t)
+  no-also-here {t} {d} {n} h = peek Fixed.also f h (λ st ts e g. run-no-also d n st t ts e g)

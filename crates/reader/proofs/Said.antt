@@ -8,7 +8,7 @@ use borrow.Author.Tests.{not-true, not-false}
 use mir.Val.{hasKey}
 use denote.Enum.Declared.{tagOf}
 use types.Run.{OneOf, hit, miss}
-use Rattle.text.specs.First.{First}
+use Rattle.text.specs.First.{FirstToken}
 use Rattle.text.specs.declared.Word.{Word}
 use Rattle.text.specs.declared.Sign.{Sign}
 use Rattle.text.specs.declared.Token.{Token}
@@ -111,10 +111,10 @@ module _ (text : List ℕ) where
 pub atom-once : {text : List ℕ} {from : ℕ} {r s : AtomRead} → AtomAt text from r → AtomAt text from s → r ≡ s
 atom-once {text} x y = next-once (Case IsTested (TestedSays text)) (case-once IsTested (TestedSays text) tested-once (tested-says-once text)) _ _ (x .right) (y .right)
 
-module _ {text : List ℕ} {from : ℕ} {A : Type 0} {StandsFor : Token → A → Type 0} {Says : A → AtomRead → Type 0} {k : Token} (f : First text from k) where
+module _ {text : List ℕ} {from : ℕ} {A : Type 0} {StandsFor : Token → A → Type 0} {Says : A → AtomRead → Type 0} {k : Token} (f : FirstToken text from k) where
   -- a token that stands for something
   pub next-stands : {r : AtomRead} (j : Token) (a : A) → k ≡ j → StandsFor j a → Says a r → Next text from (λ t. Case StandsFor Says t r)
-  next-stands j a e i x = record { token = j; first = subst (First text from) e f; says = stands i x }
+  next-stands j a e i x = record { token = j; first = subst (FirstToken text from) e f; says = stands i x }
 
   -- a word, or a sign, that is told
   pub next-word : {r : AtomRead} {p q : ℕ} {x y : Word} (a : A)
@@ -138,7 +138,7 @@ module _ {text : List ℕ} {from : ℕ} {A : Type 0} {StandsFor : Token → A �
   next-other j e h right =
       record {
         token = j;
-        first = subst (First text from) e f;
+        first = subst (FirstToken text from) e f;
         says = subst (λ (u : Refusal). Case StandsFor Says j (Refused u)) (sym right) (other h);
       }
 
@@ -179,7 +179,7 @@ no-object k h a rend = miss (but (0 ∷ 2 ∷ []) 6) 0 tt h
 
 -- so where no word stands, a letter is the object
 pub letter-says : {text : List ℕ} {from : ℕ} (k : Token) (equal : Bool)
-    → First text from k
+    → FirstToken text from k
     → OneOf (but (0 ∷ []) 6) (tagOf token-type.the-type k)
     → Next text from (λ t. ObjectSays equal t (letterOf equal k))
 letter-says (Token.Word p q x) equal f h = absurd (miss (but (0 ∷ []) 6) 0 tt h)

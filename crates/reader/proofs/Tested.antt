@@ -11,7 +11,7 @@ use types.Run.{OneOf, hit, miss}
 use Rattle.text.specs.Token as Spelt
 use Rattle.text.specs.Token.{w}
 use Rattle.text.specs.Tokens.{_at_, Ending}
-use Rattle.text.specs.First.{part, First}
+use Rattle.text.specs.First.{part, FirstToken}
 use Rattle.text.specs.declared.Word.{Word}
 use Rattle.text.specs.declared.Sign.{Sign}
 use Rattle.text.specs.declared.Token.{Token}
@@ -24,12 +24,12 @@ use Rattle.text.proofs.Once.{first-once}
 use Rattle.rule.specs.Tree as Tree
 use Rattle.rule.specs.Tree.{Number}
 use Rattle.rule.specs.Grammar as Grammar
-use Rattle.rule.specs.Grammar.{Ts, IsSought, IsAtom}
-use Rattle.rule.specs.Limits.{faultIf, isIn, soughtFaults, numberFaults, atomFaults}
+use Rattle.rule.specs.Grammar.{Ts, IsSymbolName, IsAtom}
+use Rattle.rule.specs.Limits.{faultIf, isIn, symbolNameFaults, numberFaults, atomFaults}
 use Rattle.rule.proofs.Within.{kept}
 use Rattle.rule.specs.Inside.Class as Class
 use Rattle.rule.specs.Inside.Class.{Class, tokenOf, token-of-class}
-use Rattle.rule.specs.Inside.Machine.{Symbol, number, operand, sought, Stack, Value, Totals, counted, Move, outside, choices, pick, move, refused, run}
+use Rattle.rule.specs.Inside.Machine.{Expected, number, operand, symbolName, Stack, Value, Totals, counted, Move, outside, choices, pick, move, refused, run}
 use Rattle.reader.specs.Atom.{refusalOf}
 use Rattle.reader.specs.Inside.Answers.{Front, spot, totals, Stops, Ready, Answers}
 use Rattle.reader.specs.Inside.Atoms.{symbolOf, atomOf, rowsOf, strayOf, Zeroed, letterOf, compared, behind, isSign, NoSign, Tests}
@@ -55,39 +55,39 @@ use Rattle.reader.proofs.Missed.{Misses, missed, sortsLeft, missesSign,
 front-token : {text : List ℕ} {from p q : ℕ} {k : Class} (f : Front text from k p q) → f .token ≡ tokenOf k
 front-token f = sym (token-of-class (f .token)) ∙ ap tokenOf (f .is)
 
-module _ {text : List ℕ} {from : ℕ} {lead : Ts → Ts} {x : Symbol} where
+module _ {text : List ℕ} {from : ℕ} {lead : Ts → Ts} {x : Expected} where
   -- what comes first is refused
   pub test-missed : {k : Token} {r : Refusal}
-      → First text from k
+      → FirstToken text from k
       → ((t : Totals) → Misses text t x k)
       → r ≡ refusalOf k
       → Tests text from lead x (Refused r)
   test-missed {k} f h right = record { right = λ t. rw right (missed k f (h t)) }
 
   pub test-refuses : {k : Token} {r : Refusal}
-      → First text from k
+      → FirstToken text from k
       → ((t : Totals) → OneOf (sortsLeft t x k) (tagOf token-type.the-type k))
       → r ≡ refusalOf k
       → Tests text from lead x (Refused r)
   test-refuses {k} f h right = test-missed f (λ t. missed-sort text x t k (h t)) right
 
   pub test-refuses-sign : {k : Token} {r : Refusal} {p q : ℕ} {v : Sign}
-      → First text from k
+      → FirstToken text from k
       → k ≡ Token.Sign p q v
       → ((t : Totals) → OneOf (valuesLeft sign-type.enum (missesSign t x p)) (tagOf sign-type.the-type v))
       → r ≡ record { number = 4; place = p }
       → Tests text from lead x (Refused r)
   test-refuses-sign {p = p} {q = q} {v = v} f e h right =
-      test-missed (subst (λ (u : Token). First text from u) e f) (λ t. missed-sign text x t p q v (h t)) right
+      test-missed (subst (λ (u : Token). FirstToken text from u) e f) (λ t. missed-sign text x t p q v (h t)) right
 
   pub test-refuses-word : {k : Token} {r : Refusal} {p q : ℕ} {v : Word}
-      → First text from k
+      → FirstToken text from k
       → k ≡ Token.Word p q v
       → ((t : Totals) → OneOf (valuesLeft word-type.enum (missesWord t x p (part text p q))) (tagOf word-type.the-type v))
       → r ≡ record { number = 4; place = p }
       → Tests text from lead x (Refused r)
   test-refuses-word {p = p} {q = q} {v = v} f e h right =
-      test-missed (subst (λ (u : Token). First text from u) e f) (λ t. missed-word text x t p q v (h t)) right
+      test-missed (subst (λ (u : Token). FirstToken text from u) e f) (λ t. missed-word text x t p q v (h t)) right
 
   module _ {p q : ℕ} {k : Class} (f : Front text from k p q) where
     -- a limit is broken
@@ -100,7 +100,7 @@ module _ {text : List ℕ} {from : ℕ} {lead : Ts → Ts} {x : Symbol} where
         record { right = λ t. subst (λ (j : ℕ). Stops text (spot from (x ∷ []) t) (record { number = j; place = p })) (n t) (breaks x t f (h t) (b t)) }
 
     -- a token of an atom, and the rest of it
-    pub test-on : (m : Totals → Move (Value x)) {y : Symbol} {r : AtomRead}
+    pub test-on : (m : Totals → Move (Value x)) {y : Expected} {r : AtomRead}
         → ((t : Totals) → pick (choices t p x) k ≡ some (m t))
         → ((t : Totals) → m t .breaks ≡ false)
         → ((t : Totals) → m t .push ≡ y ∷ [])
@@ -161,7 +161,7 @@ module _ {text : List ℕ} {from : ℕ} {lead : Ts → Ts} {x : Symbol} where
         }
 
 -- an atom of `read` or of `c`, by its comparison
-abbrev readOf : Bool → Tree.Sought → Tree.Atom
+abbrev readOf : Bool → Tree.SymbolName → Tree.Atom
 readOf true x = Tree.readIs x
 readOf false x = Tree.readIsNot x
 
@@ -169,8 +169,8 @@ abbrev counterOf : Bool → Number → Tree.Atom
 counterOf true n = Tree.counterIs n
 counterOf false n = Tree.counterIsNot n
 
-is-read : (equal : Bool) {ts us : Ts} {x : Tree.Sought} (p q : ℕ)
-    → IsSought ts x us
+is-read : (equal : Bool) {ts us : Ts} {x : Tree.SymbolName} (p q : ℕ)
+    → IsSymbolName ts x us
     → IsAtom ((w "read" at p) ∷ (compared equal at q) ∷ ts) p (readOf equal x) us
 is-read true p q h = Grammar.readIs h
 is-read false p q h = Grammar.readIsNot h
@@ -180,7 +180,7 @@ is-counter : (equal : Bool) (p q r : ℕ) (n : List ℕ) (ts : Ts)
 is-counter true p q r n ts = Grammar.counterIs
 is-counter false p q r n ts = Grammar.counterIsNot
 
-read-is : (equal : Bool) (x : Tree.Sought) → Atom.Read equal (symbolOf x) ≡ atomOf (readOf equal x)
+read-is : (equal : Bool) (x : Tree.SymbolName) → Atom.Read equal (symbolOf x) ≡ atomOf (readOf equal x)
 read-is true x = refl
 read-is false x = refl
 
@@ -188,7 +188,7 @@ counter-is : (equal : Bool) (n : Number) → Atom.Counter equal ≡ atomOf (coun
 counter-is true n = refl
 counter-is false n = refl
 
-read-zeroed : (equal : Bool) (x : Tree.Sought) → Zeroed (readOf equal x)
+read-zeroed : (equal : Bool) (x : Tree.SymbolName) → Zeroed (readOf equal x)
 read-zeroed true x = tt
 read-zeroed false x = tt
 
@@ -198,10 +198,10 @@ counter-zeroed false n e = e
 
 module _ {text : List ℕ} {from p q : ℕ} (equal : Bool) (o r : ℕ) where
   -- what `read` is compared with
-  pub sought-found : {k : Class} (x : Tree.Sought)
+  pub sought-found : {k : Class} (x : Tree.SymbolName)
       → Front text from k p q
-      → ((ts : Ts) → IsSought ((tokenOf k at p) ∷ ts) x ts)
-      → Tests text from (λ ts. behind (w "read") o (behind (compared equal) r ts)) sought (Found (Atom.Read equal (symbolOf x)) q)
+      → ((ts : Ts) → IsSymbolName ((tokenOf k at p) ∷ ts) x ts)
+      → Tests text from (λ ts. behind (w "read") o (behind (compared equal) r ts)) symbolName (Found (Atom.Read equal (symbolOf x)) q)
   sought-found x f h = test-found f (readOf equal x) (λ ts. is-read equal o r (h ts)) (read-zeroed equal x) (read-is equal x)
 
   -- what `c` is compared with
@@ -221,9 +221,9 @@ module _ {text : List ℕ} {from p q : ℕ} (equal : Bool) (o r : ℕ) where
 
 -- where no word stands, a letter is what `read` is compared with, and anything else is refused
 pub letter-or-refused : {text : List ℕ} {from : ℕ} (k : Token) (equal : Bool) (o r : ℕ)
-    → First text from k
+    → FirstToken text from k
     → OneOf (1 ∷ 2 ∷ 3 ∷ 4 ∷ 5 ∷ []) (tagOf token-type.the-type k)
-    → Tests text from (λ ts. behind (w "read") o (behind (compared equal) r ts)) sought (letterOf equal k)
+    → Tests text from (λ ts. behind (w "read") o (behind (compared equal) r ts)) symbolName (letterOf equal k)
 letter-or-refused (Token.Word p q x) equal o r f h = absurd (miss (1 ∷ 2 ∷ 3 ∷ 4 ∷ 5 ∷ []) 0 tt h)
 letter-or-refused (Token.Number p q) equal o r f h = test-refuses f (λ t. hit (1 ∷ 3 ∷ 4 ∷ 5 ∷ []) 1 tt) refl
 letter-or-refused (Token.Letter p q b) equal o r f h =
@@ -235,7 +235,7 @@ letter-or-refused (Token.Broken p) equal o r f h = test-refuses f (λ t. hit (1 
 -- no sign and no word is left
 pub nor-sign : {text : List ℕ} {from : ℕ} {k : Token}
     → NoSign text from
-    → First text from k
+    → FirstToken text from k
     → OneOf (1 ∷ 2 ∷ 3 ∷ 4 ∷ 5 ∷ []) (tagOf token-type.the-type k)
     → OneOf (1 ∷ 2 ∷ 4 ∷ 5 ∷ []) (tagOf token-type.the-type k)
 nor-sign {k = k} h f e = go k (ap isSign (first-once f (h .first)) ∙ h .none) e
@@ -252,11 +252,11 @@ nor-sign {k = k} h f e = go k (ap isSign (first-once f (h .first)) ∙ h .none) 
     go (Token.Broken p) h e = hit (1 ∷ 2 ∷ 4 ∷ 5 ∷ []) 5 tt
 
 module _ (t : Totals) (st : Stack) (e : Ending) where
-  sought-runs : {ts us : Ts} {x : Tree.Sought}
-      → IsSought ts x us
-      → soughtFaults (t .alphabet) x ≡ []
-      → run (sought ∷ st) t ts e ≡ run st t us e
-  unfolding run move soughtFaults
+  sought-runs : {ts us : Ts} {x : Tree.SymbolName}
+      → IsSymbolName ts x us
+      → symbolNameFaults (t .alphabet) x ≡ []
+      → run (symbolName ∷ st) t ts e ≡ run st t us e
+  unfolding run move symbolNameFaults
   sought-runs (Grammar.aLetter {p = p} {b = b}) h = rw (kept (not (isIn b (t .alphabet))) 6 p h, run)
   sought-runs Grammar.lend h = refl
   sought-runs Grammar.rend h = refl
@@ -317,8 +317,8 @@ letter-strays a equal b p t e = ap (λ (u : Bool). elim u [ true ↦ Stray.Nowhe
 no-stray : {A : Type 0} (p : ℕ) → Stray.Nowhere ≡ Stray.At p → A
 no-stray p h = absurd (let no : _≡_ {A = ℕ} 0 1 = ap strays h in omega arith)
 
-sought-clean : (a : List ℕ) (equal : Bool) (x : Tree.Sought) → strayOf a (Atom.Read equal (symbolOf x)) ≡ Stray.Nowhere → soughtFaults a x ≡ []
-unfolding soughtFaults faultIf
+sought-clean : (a : List ℕ) (equal : Bool) (x : Tree.SymbolName) → strayOf a (Atom.Read equal (symbolOf x)) ≡ Stray.Nowhere → symbolNameFaults a x ≡ []
+unfolding symbolNameFaults faultIf
 sought-clean a equal (Tree.letter l) e = ap (λ (t : Bool). faultIf (not t) 6 (l .place)) (not-stray (l .byte) (l .place) a e)
 sought-clean a equal Tree.lend e = refl
 sought-clean a equal Tree.rend e = refl
@@ -331,10 +331,10 @@ atom-clean a (Tree.counterIs n) z e = z
 atom-clean a (Tree.counterIsNot n) z e = z
 
 -- such a letter is refused with its place
-sought-stops : (t : Totals) (st : Stack) (e : Ending) (equal : Bool) (q : ℕ) {ts us : Ts} {x : Tree.Sought}
-    → IsSought ts x us
+sought-stops : (t : Totals) (st : Stack) (e : Ending) (equal : Bool) (q : ℕ) {ts us : Ts} {x : Tree.SymbolName}
+    → IsSymbolName ts x us
     → strayOf (t .alphabet) (Atom.Read equal (symbolOf x)) ≡ Stray.At q
-    → run (sought ∷ st) t ts e ≡ refused 6 q
+    → run (symbolName ∷ st) t ts e ≡ refused 6 q
 unfolding run move
 sought-stops t st e equal q (Grammar.aLetter {p = p} {b = b}) h =
     let out = is-stray b p q (t .alphabet) h in

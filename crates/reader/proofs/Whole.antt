@@ -5,7 +5,7 @@ use mathlib.Core.List.{List, [], _∷_}
 use denote.Enum.Declared.{tagOf}
 use types.Run.{OneOf, miss}
 use Rattle.text.specs.Tokens.{Placed, Ending, ends}
-use Rattle.text.specs.First.{Last, Begins, First}
+use Rattle.text.specs.First.{Last, Begins, FirstToken}
 use Rattle.text.specs.declared.Token.{Token}
 use Rattle.text.specs.declared.Token.the-variants as Token
 use Rattle.text.proofs.Token as token-type
@@ -13,7 +13,7 @@ use Rattle.text.proofs.Tokens.{tokens-once}
 use Rattle.rule.specs.Inside.Machine.{program, start, Totals, taken, refused, run, outcome}
 use Rattle.rule.proofs.Outcomes.{outcome-is}
 use Rattle.reader.specs.Atom.{refusalOf}
-use Rattle.reader.specs.Inside.Answers.{spot, Comes, Stops, Answers, outcomeOf}
+use Rattle.reader.specs.Inside.Answers.{spot, ComesTo, Stops, Answers, outcomeOf}
 use Rattle.reader.specs.declared.answers.Refusal.{Refusal}
 use Rattle.reader.specs.declared.answers.Read.{Read}
 use Rattle.reader.specs.declared.answers.Read.the-variants.{Refused}
@@ -47,7 +47,7 @@ module _ {text : List ℕ} where
   refused-outcome h e =
       stopped (subst (λ (v : Read). Answers text (spot 0 (program ∷ []) start) [] [] v) e h .right) ∙ ap outcomeOf (sym e)
 
-  module _ {q : ℕ} {t : Totals} {k : Token} (h : Comes text (spot 0 (program ∷ []) start) (spot q [] t)) (f : First text q k) where
+  module _ {q : ℕ} {t : Totals} {k : Token} (h : ComesTo text (spot 0 (program ∷ []) start) (spot q [] t)) (f : FirstToken text q k) where
     comes-to : outcome text ≡ run [] t (f .tokens) (f .ending)
     comes-to =
         let once = tokens-once (h .there) (f .all) in

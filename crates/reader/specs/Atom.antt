@@ -5,7 +5,7 @@ use mathlib.Core.Path.{_≡_}
 use mathlib.Core.Bool.{Bool, true, false, _&&_}
 use mathlib.Core.List.{List}
 use lib.Dec.{leb}
-use Rattle.text.specs.First.{part, First}
+use Rattle.text.specs.First.{part, FirstToken}
 use Rattle.text.specs.declared.Word.the-variants as Word
 use Rattle.text.specs.declared.Sign.the-variants as Sign
 use Rattle.text.specs.declared.Token.{Token}
@@ -30,7 +30,7 @@ refusalOf (Token.Broken place) = record { number = 3; place = place }
 -- what comes first from a byte on, and what is said by it
 pub record Next (text : List ℕ) (from : ℕ) (Says : Token → Type 0) : Type 0 where
   pub token : Token
-  pub first : First text from token
+  pub first : FirstToken text from token
   pub says : Says token
 
 -- a token that stands for something says what follows from that; any other is refused

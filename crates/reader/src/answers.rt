@@ -3,7 +3,7 @@ ghost use mathlib.Core.Path.{_≡_};
 ghost use mathlib.Core.List.{List, [], _∷_};
 ghost use Prim.Native.Nat.{ℕ, _+_, _^_, _<_};
 ghost use Rattle.text.specs.Token as Spelt;
-ghost use Rattle.rule.specs.Inside.Class.{Mark, spell};
+ghost use Rattle.rule.specs.Inside.Class.{Fixed, spell};
 ghost use Rattle.rule.specs.Inside.Machine.{exact};
 ghost use Rattle.reader.specs.Atom.{refusalOf};
 ghost use Rattle.reader.specs.Inside.Answers.{totals, spot, Ready, Answers};
@@ -85,7 +85,7 @@ pub fn refuse(token: Token) -> Refusal
 // A sign of one byte. Enums have no `==`, and this byte says which sign it is.
 pub fn sign_at(text: &[u8], at: usize, counts: Counts, wanted: u8) -> Read
     requires { ⌜ Ready (now text) at counts ⌝ }
-    ensures { λ r. ⌜ ((m : Mark) (a : List ℕ) → spell m ≡ Spelt.sign (wanted ∷ []) → Answers (now (text .entry)) (spot at (exact m ∷ []) (totals a counts)) [] a r) ⌝ }
+    ensures { λ r. ⌜ ((m : Fixed) (a : List ℕ) → spell m ≡ Spelt.sign (wanted ∷ []) → Answers (now (text .entry)) (spot at (exact m ∷ []) (totals a counts)) [] a r) ⌝ }
 {
     let token = token_at(text, at);
     let Token::Sign {

@@ -2,7 +2,7 @@
 ghost use mathlib.Core.Path.{_≡_};
 ghost use Prim.Native.Nat.{ℕ, _<_, _^_, _+_};
 ghost use Rattle.text.specs.Token.{w};
-ghost use Rattle.rule.specs.Inside.Machine.{operand, readTest, counterTest, sought, number};
+ghost use Rattle.rule.specs.Inside.Machine.{operand, readTest, counterTest, symbolName, number};
 ghost use Rattle.reader.specs.Atom.{Next, ObjectSays, NumeralSays, ComparedSays, AtomAt};
 ghost use Rattle.reader.specs.Inside.Answers.{alphabetOf, Sized};
 ghost use Rattle.reader.specs.Inside.Atoms.{NoSign, Tests, behind, compared, rowsOf, strayOf, letterOf};
@@ -99,7 +99,7 @@ fn read_test_at(text: &[u8], at: usize) -> AtomRead
 
 // A mark, or a letter.
 fn symbol_at(text: &[u8], at: usize, equal: bool) -> AtomRead
-    ensures { λ r. ⌜ ((p q : ℕ) → Tests (now (text .entry)) at (λ ts. behind (w "read") p (behind (compared equal) q ts)) sought r) × Next (now (text .entry)) at (λ t. ObjectSays equal t r) ⌝ }
+    ensures { λ r. ⌜ ((p q : ℕ) → Tests (now (text .entry)) at (λ ts. behind (w "read") p (behind (compared equal) q ts)) symbolName r) × Next (now (text .entry)) at (λ t. ObjectSays equal t r) ⌝ }
 {
     let token = token_at(text, at);
     let Token::Word { at: _, end, word } = token else {

@@ -1,7 +1,7 @@
 // Plain statements, behind their first word.
 ghost use mathlib.Core.List.{List, [], _∷_};
 ghost use Prim.Native.Nat.{ℕ};
-ghost use Rattle.rule.specs.Inside.Class.{Mark};
+ghost use Rattle.rule.specs.Inside.Class.{Fixed};
 ghost use Rattle.rule.specs.Inside.Machine.{exact, number, distance, end, change};
 ghost use Rattle.reader.specs.Inside.Answers.{totals, spot, Ready, Answers};
 use super::answers::Counts;
@@ -17,7 +17,7 @@ use tokeniser::token_at;
 // `) ;`
 fn close_at(text: &[u8], at: usize, counts: Counts) -> Read
     requires { ⌜ Ready (now text) at counts ⌝ }
-    ensures { λ r. ⌜ ((a : List ℕ) → Answers (now (text .entry)) (spot at (exact Mark.closes ∷ exact Mark.semicolon ∷ []) (totals a counts)) [] a r) ⌝ }
+    ensures { λ r. ⌜ ((a : List ℕ) → Answers (now (text .entry)) (spot at (exact Fixed.closes ∷ exact Fixed.semicolon ∷ []) (totals a counts)) [] a r) ⌝ }
 {
     let read = sign_at(text, at, counts, b')');
     let Read::Went {
@@ -33,7 +33,7 @@ fn close_at(text: &[u8], at: usize, counts: Counts) -> Read
 // `n ) ;`
 fn cells_at(text: &[u8], at: usize, counts: Counts) -> Read
     requires { ⌜ Ready (now text) at counts ⌝ }
-    ensures { λ r. ⌜ ((a : List ℕ) → Answers (now (text .entry)) (spot at (number 63 ∷ exact Mark.closes ∷ exact Mark.semicolon ∷ []) (totals a counts)) [] a r) ⌝ }
+    ensures { λ r. ⌜ ((a : List ℕ) → Answers (now (text .entry)) (spot at (number 63 ∷ exact Fixed.closes ∷ exact Fixed.semicolon ∷ []) (totals a counts)) [] a r) ⌝ }
 {
     let read = number_at(text, at, counts, 63);
     let Read::Went {
@@ -64,7 +64,7 @@ fn distance_at(text: &[u8], at: usize, counts: Counts) -> Read
 // Behind `move`.
 pub fn move_at(text: &[u8], at: usize, counts: Counts) -> Read
     requires { ⌜ Ready (now text) at counts ⌝ }
-    ensures { λ r. ⌜ ((a : List ℕ) → Answers (now (text .entry)) (spot at (exact Mark.opens ∷ distance ∷ []) (totals a counts)) [] a r) ⌝ }
+    ensures { λ r. ⌜ ((a : List ℕ) → Answers (now (text .entry)) (spot at (exact Fixed.opens ∷ distance ∷ []) (totals a counts)) [] a r) ⌝ }
 {
     let read = sign_at(text, at, counts, b'(');
     let Read::Went {
@@ -80,7 +80,7 @@ pub fn move_at(text: &[u8], at: usize, counts: Counts) -> Read
 // Behind `goto`.
 pub fn goto_at(text: &[u8], at: usize, counts: Counts) -> Read
     requires { ⌜ Ready (now text) at counts ⌝ }
-    ensures { λ r. ⌜ ((a : List ℕ) → Answers (now (text .entry)) (spot at (exact Mark.opens ∷ end ∷ []) (totals a counts)) [] a r) ⌝ }
+    ensures { λ r. ⌜ ((a : List ℕ) → Answers (now (text .entry)) (spot at (exact Fixed.opens ∷ end ∷ []) (totals a counts)) [] a r) ⌝ }
 {
     let read = sign_at(text, at, counts, b'(');
     let Read::Went {
@@ -104,7 +104,7 @@ pub fn goto_at(text: &[u8], at: usize, counts: Counts) -> Read
 // Behind `c +=` and `c -=`.
 fn amount_at(text: &[u8], at: usize, counts: Counts) -> Read
     requires { ⌜ Ready (now text) at counts ⌝ }
-    ensures { λ r. ⌜ ((a : List ℕ) → Answers (now (text .entry)) (spot at (number 31 ∷ exact Mark.semicolon ∷ []) (totals a counts)) [] a r) ⌝ }
+    ensures { λ r. ⌜ ((a : List ℕ) → Answers (now (text .entry)) (spot at (number 31 ∷ exact Fixed.semicolon ∷ []) (totals a counts)) [] a r) ⌝ }
 {
     let read = number_at(text, at, counts, 31);
     let Read::Went {

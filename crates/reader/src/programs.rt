@@ -3,7 +3,7 @@ ghost use mathlib.Core.Path.{_≡_};
 ghost use mathlib.Core.List.{List, [], _∷_};
 ghost use Prim.Native.Nat.{ℕ, _≤_};
 ghost use lib.ListN.{length};
-ghost use Rattle.rule.specs.Inside.Class.{Mark};
+ghost use Rattle.rule.specs.Inside.Class.{Fixed};
 ghost use Rattle.rule.specs.Inside.Machine.{exact, body, block, outcome};
 ghost use Rattle.reader.specs.Inside.Answers.{totals, spot, Ready, Answers, outcomeOf};
 use super::answers::Counts;
@@ -19,7 +19,7 @@ use tokeniser::token_at;
 // `string )`
 fn string_at(text: &[u8], at: usize, counts: Counts) -> Read
     requires { ⌜ Ready (now text) at counts ⌝ }
-    ensures { λ r. ⌜ ((a : List ℕ) → Answers (now (text .entry)) (spot at (exact Mark.string ∷ exact Mark.closes ∷ []) (totals a counts)) [] a r) ⌝ }
+    ensures { λ r. ⌜ ((a : List ℕ) → Answers (now (text .entry)) (spot at (exact Fixed.string ∷ exact Fixed.closes ∷ []) (totals a counts)) [] a r) ⌝ }
 {
     let token = token_at(text, at);
     let Token::Word { at: _, end, word } = token else {

@@ -3,7 +3,7 @@ ghost use mathlib.Core.Path.{_≡_};
 ghost use mathlib.Core.List.{List, [], _∷_};
 ghost use Prim.Native.Nat.{ℕ, _≤_};
 ghost use lib.ListN.{length};
-ghost use Rattle.rule.specs.Inside.Class.{Mark};
+ghost use Rattle.rule.specs.Inside.Class.{Fixed};
 ghost use Rattle.rule.specs.Inside.Machine.{exact, program, alphabet, decrement, body, letters, moreLetters, truth, start};
 ghost use Rattle.reader.specs.Inside.Answers.{alphabetOf, Sized, totals, spot, Ready, Answers, AnswersWith, refusedWith};
 use super::answers::Counts;
@@ -120,7 +120,7 @@ fn letters_at(text: &[u8], at: usize, counts: Counts) -> Settings
 // Behind `alphabet`.
 fn alphabet_at(text: &[u8], at: usize, counts: Counts) -> Settings
     requires { ⌜ Ready (now text) at counts ⌝ }
-    ensures { λ r. ⌜ AnswersWith (now (text .entry)) (spot at (exact Mark.equals ∷ exact Mark.openList ∷ letters ∷ exact Mark.semicolon ∷ []) (totals [] counts)) [] r ⌝ }
+    ensures { λ r. ⌜ AnswersWith (now (text .entry)) (spot at (exact Fixed.equals ∷ exact Fixed.openList ∷ letters ∷ exact Fixed.semicolon ∷ []) (totals [] counts)) [] r ⌝ }
 {
     let read = sign_at(text, at, counts, b'=');
     let Read::Went {
@@ -157,7 +157,7 @@ fn alphabet_at(text: &[u8], at: usize, counts: Counts) -> Settings
 // Behind `decr_on_zero`.
 fn truth_at(text: &[u8], at: usize, counts: Counts) -> Read
     requires { ⌜ Ready (now text) at counts ⌝ }
-    ensures { λ r. ⌜ ((a : List ℕ) → Answers (now (text .entry)) (spot at (exact Mark.equals ∷ truth ∷ []) (totals a counts)) [] a r) ⌝ }
+    ensures { λ r. ⌜ ((a : List ℕ) → Answers (now (text .entry)) (spot at (exact Fixed.equals ∷ truth ∷ []) (totals a counts)) [] a r) ⌝ }
 {
     let read = sign_at(text, at, counts, b'=');
     let Read::Went {
@@ -181,7 +181,7 @@ fn truth_at(text: &[u8], at: usize, counts: Counts) -> Read
 // Behind `alphabet`, where that comes first.
 fn alphabet_first_at(text: &[u8], at: usize, counts: Counts) -> Settings
     requires { ⌜ Ready (now text) at counts ⌝ }
-    ensures { λ r. ⌜ AnswersWith (now (text .entry)) (spot at (exact Mark.equals ∷ exact Mark.openList ∷ letters ∷ exact Mark.semicolon ∷ decrement ∷ []) (totals [] counts)) [] r ⌝ }
+    ensures { λ r. ⌜ AnswersWith (now (text .entry)) (spot at (exact Fixed.equals ∷ exact Fixed.openList ∷ letters ∷ exact Fixed.semicolon ∷ decrement ∷ []) (totals [] counts)) [] r ⌝ }
 {
     let first = alphabet_at(text, at, counts);
     let read = first.read;
@@ -209,7 +209,7 @@ fn alphabet_first_at(text: &[u8], at: usize, counts: Counts) -> Settings
 // Behind `decr_on_zero`, where that comes first.
 fn decrement_first_at(text: &[u8], at: usize, counts: Counts) -> Settings
     requires { ⌜ Ready (now text) at counts ⌝ }
-    ensures { λ r. ⌜ AnswersWith (now (text .entry)) (spot at (exact Mark.equals ∷ truth ∷ alphabet ∷ []) (totals [] counts)) [] r ⌝ }
+    ensures { λ r. ⌜ AnswersWith (now (text .entry)) (spot at (exact Fixed.equals ∷ truth ∷ alphabet ∷ []) (totals [] counts)) [] r ⌝ }
 {
     let read = truth_at(text, at, counts);
     let Read::Went {

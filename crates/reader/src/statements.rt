@@ -1,7 +1,7 @@
 // Blocks and statements. A block holds statements, and a statement may hold blocks.
 ghost use mathlib.Core.List.{[], _∷_};
 ghost use Prim.Native.Nat.{_-_, _≤_};
-ghost use Rattle.rule.specs.Inside.Class.{Mark};
+ghost use Rattle.rule.specs.Inside.Class.{Fixed};
 ghost use Rattle.rule.specs.Inside.Machine.{exact, operand, tail, block, statements, orElse, loop, arms};
 ghost use Rattle.reader.specs.Inside.Answers.{alphabetOf, Sized, totals, spot, Ready, Answers, Eats, LastArm};
 ghost use Rattle.reader.specs.Inside.Atoms.{NoSign};
@@ -121,7 +121,7 @@ fn guarded_at(text: &[u8], at: usize, counts: Counts, letters: Letters, left: us
 fn if_at(text: &[u8], at: usize, counts: Counts, letters: Letters, left: usize) -> Read
     requires { ⌜ Ready (now text) at counts ⌝ }
     requires { ⌜ Sized letters × (left ≤ 16) ⌝ }
-    ensures { λ r. ⌜ Answers (now (text .entry)) (spot at (exact Mark.opens ∷ operand 0 ∷ tail 0 ∷ block (16 - left) ∷ orElse (16 - left) ∷ []) (totals (alphabetOf letters) counts)) (statements (16 - left) ∷ []) (alphabetOf letters) r ⌝ }
+    ensures { λ r. ⌜ Answers (now (text .entry)) (spot at (exact Fixed.opens ∷ operand 0 ∷ tail 0 ∷ block (16 - left) ∷ orElse (16 - left) ∷ []) (totals (alphabetOf letters) counts)) (statements (16 - left) ∷ []) (alphabetOf letters) r ⌝ }
 {
     let read = sign_at(text, at, counts, b'(');
     let Read::Went {

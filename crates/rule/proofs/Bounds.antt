@@ -22,7 +22,7 @@ use Rattle.text.proofs.Tokens.{tokens-below, below-at}
 use Rattle.rule.specs.Tree.{
   Number,
   Letter,
-  Sought,
+  SymbolName,
   letter,
   lend,
   rend,
@@ -69,7 +69,7 @@ use Rattle.rule.specs.Tree.{
   Program,
   letterBytes,
 }
-use Rattle.rule.specs.Limits.{Fault, faultIf, letterFaults, numberFaults, soughtFaults, atomFaults, tooDeep, conditionFaults, plainFaults, statementFaults, restFaults, statementsFaults, armsFaults, truthFaults, inOrder, settingsFaults, faults}
+use Rattle.rule.specs.Limits.{Fault, faultIf, letterFaults, numberFaults, symbolNameFaults, atomFaults, tooDeep, conditionFaults, plainFaults, statementFaults, restFaults, statementsFaults, armsFaults, truthFaults, inOrder, settingsFaults, faults}
 use Rattle.rule.specs.Faults.{FirstFault, noToken, notHere, early, limit}
 
 -- faults of the limits have numbers 5 to 9
@@ -103,8 +103,8 @@ number-numbered greatest n = fault-if _ 7 _ (omega arith) (omega arith)
 deep : (opened o : ℕ) → Numbered (tooDeep opened o)
 deep opened o = fault-if _ 8 _ (omega arith) (omega arith)
 
-sought-numbered : (alphabet : List ℕ) (x : Sought) → Numbered (soughtFaults alphabet x)
-unfolding soughtFaults
+sought-numbered : (alphabet : List ℕ) (x : SymbolName) → Numbered (symbolNameFaults alphabet x)
+unfolding symbolNameFaults
 sought-numbered alphabet (letter l) = fault-if _ 6 _ (omega arith) (omega arith)
 sought-numbered alphabet lend = no-fault
 sought-numbered alphabet rend = no-fault

@@ -7,7 +7,7 @@ use lib.ListN.{length}
 use lib.Dec.{leb}
 use Rattle.rule.specs.Tree as Tree
 use Rattle.rule.specs.Tree.{Letter}
-use Rattle.rule.specs.Limits.{Fault, fault, faultIf, isIn, letterFaults, soughtFaults, tooDeep}
+use Rattle.rule.specs.Limits.{Fault, fault, faultIf, isIn, letterFaults, symbolNameFaults, tooDeep}
 
 -- a 17th letter is number 5 with that letter's place, whatever letter it is
 either-way : (b : Bool) (p : ℕ) → faultIf (b || true) 5 p ≡ fault 5 p ∷ []
@@ -45,6 +45,6 @@ sixteenth-open p = refl
 -- a letter outside the alphabet is number 6 with that letter's place
 pub letter-outside : (alphabet : List ℕ) (l : Letter)
     → isIn (l .byte) alphabet ≡ false
-    → soughtFaults alphabet (Tree.letter l) ≡ fault 6 (l .place) ∷ []
-unfolding soughtFaults faultIf
+    → symbolNameFaults alphabet (Tree.letter l) ≡ fault 6 (l .place) ∷ []
+unfolding symbolNameFaults faultIf
 letter-outside alphabet l out = ap (λ (b : Bool). faultIf (not b) 6 (l .place)) out

@@ -15,9 +15,9 @@ use Rattle.rule.specs.Tree.{Program}
 use Rattle.rule.specs.Grammar.{IsProgram}
 use Rattle.rule.specs.Limits.{Fault, fault}
 use Rattle.rule.specs.Faults.{GoesOn, Clean, Breaks}
-use Rattle.rule.specs.Inside.Class.{Mark, spell}
+use Rattle.rule.specs.Inside.Class.{Fixed, spell}
 use Rattle.rule.specs.Inside.Machine as Machine
-use Rattle.rule.specs.Inside.Machine.{Symbol, Stack}
+use Rattle.rule.specs.Inside.Machine.{Expected, Stack}
 use Rattle.rule.proofs.Machine.Steps.{Ts, State, begin, eat, grown}
 use Rattle.rule.proofs.Machine.Sound.{Ended, eaten-program}
 use Rattle.rule.proofs.Machine.Viable.{short, shortAll, completes}
@@ -39,48 +39,48 @@ all-writable (x ∷ ts) us t u =
     and-of (writable x) (allWritable (ts ++ us)) (and-left (writable x) (allWritable ts) t)
     (all-writable ts us (and-right (writable x) (allWritable ts) t) u)
 
-mark-writable : (m : Mark) → T (allWritable (spell m ∷ []))
-mark-writable Mark.alphabet = tt
-mark-writable Mark.decrOnZero = tt
-mark-writable Mark.isTrue = tt
-mark-writable Mark.isFalse = tt
-mark-writable Mark.twoc = tt
-mark-writable Mark.string = tt
-mark-writable Mark.move = tt
-mark-writable Mark.goto = tt
-mark-writable Mark.lend = tt
-mark-writable Mark.rend = tt
-mark-writable Mark.c = tt
-mark-writable Mark.accept = tt
-mark-writable Mark.reject = tt
-mark-writable Mark.if = tt
-mark-writable Mark.else = tt
-mark-writable Mark.while = tt
-mark-writable Mark.choose = tt
-mark-writable Mark.branch = tt
-mark-writable Mark.also = tt
-mark-writable Mark.read = tt
-mark-writable Mark.equals = tt
-mark-writable Mark.same = tt
-mark-writable Mark.differs = tt
-mark-writable Mark.not = tt
-mark-writable Mark.and = tt
-mark-writable Mark.or = tt
-mark-writable Mark.plusPlus = tt
-mark-writable Mark.minusMinus = tt
-mark-writable Mark.plusEquals = tt
-mark-writable Mark.minusEquals = tt
-mark-writable Mark.minus = tt
-mark-writable Mark.opens = tt
-mark-writable Mark.closes = tt
-mark-writable Mark.begins = tt
-mark-writable Mark.ends = tt
-mark-writable Mark.openList = tt
-mark-writable Mark.closeList = tt
-mark-writable Mark.comma = tt
-mark-writable Mark.semicolon = tt
+mark-writable : (m : Fixed) → T (allWritable (spell m ∷ []))
+mark-writable Fixed.alphabet = tt
+mark-writable Fixed.decrOnZero = tt
+mark-writable Fixed.isTrue = tt
+mark-writable Fixed.isFalse = tt
+mark-writable Fixed.twoc = tt
+mark-writable Fixed.string = tt
+mark-writable Fixed.move = tt
+mark-writable Fixed.goto = tt
+mark-writable Fixed.lend = tt
+mark-writable Fixed.rend = tt
+mark-writable Fixed.c = tt
+mark-writable Fixed.accept = tt
+mark-writable Fixed.reject = tt
+mark-writable Fixed.if = tt
+mark-writable Fixed.else = tt
+mark-writable Fixed.while = tt
+mark-writable Fixed.choose = tt
+mark-writable Fixed.branch = tt
+mark-writable Fixed.also = tt
+mark-writable Fixed.read = tt
+mark-writable Fixed.equals = tt
+mark-writable Fixed.same = tt
+mark-writable Fixed.differs = tt
+mark-writable Fixed.not = tt
+mark-writable Fixed.and = tt
+mark-writable Fixed.or = tt
+mark-writable Fixed.plusPlus = tt
+mark-writable Fixed.minusMinus = tt
+mark-writable Fixed.plusEquals = tt
+mark-writable Fixed.minusEquals = tt
+mark-writable Fixed.minus = tt
+mark-writable Fixed.opens = tt
+mark-writable Fixed.closes = tt
+mark-writable Fixed.begins = tt
+mark-writable Fixed.ends = tt
+mark-writable Fixed.openList = tt
+mark-writable Fixed.closeList = tt
+mark-writable Fixed.comma = tt
+mark-writable Fixed.semicolon = tt
 
-short-writable : (x : Symbol) → T (allWritable (short x))
+short-writable : (x : Expected) → T (allWritable (short x))
 short-writable (Machine.exact m) = mark-writable m
 short-writable Machine.program = tt
 short-writable Machine.alphabet = tt
@@ -103,7 +103,7 @@ short-writable (Machine.operand n) = tt
 short-writable (Machine.tail n) = tt
 short-writable Machine.readTest = tt
 short-writable Machine.counterTest = tt
-short-writable Machine.sought = tt
+short-writable Machine.symbolName = tt
 
 stack-writable : (st : Stack) → T (allWritable (shortAll st))
 stack-writable [] = tt

@@ -28,7 +28,7 @@ use borrow.Author.Tests.{leb-true, leb-false, eqb-true, eq-eqb, not-false}
 use Rattle.rule.specs.Tree.{
   Number,
   Letter,
-  Sought,
+  SymbolName,
   letter,
   lend,
   rend,
@@ -83,7 +83,7 @@ use Rattle.rule.specs.Limits.{
   value,
   inForm,
   numberFaults,
-  soughtFaults,
+  symbolNameFaults,
   atomFaults,
   tooDeep,
   conditionFaults,
@@ -145,7 +145,7 @@ mem-isIn b l (List·Memᴰ·head {x = x} q) = rw (eq-eqb b x q)
 mem-isIn b l (List·Memᴰ·tail {x = x} {xs = xs} m) = rw (mem-isIn b xs m) (or-true (eqb b x))
 
 -- a letter sought is in the alphabet
-unfoldable pub SoughtWithin : List ℕ → Sought → Type 0
+unfoldable pub SoughtWithin : List ℕ → SymbolName → Type 0
 SoughtWithin alphabet (letter l) = List·Memᴰ (l .byte) alphabet
 SoughtWithin alphabet lend = Unit
 SoughtWithin alphabet rend = Unit
@@ -215,8 +215,8 @@ number-form : (greatest : ℕ) (n : Number) → numberFaults greatest n ≡ [] �
 unfolding numberFaults
 number-form greatest n e = and-first (inForm (n .digits)) (leb (value n) greatest) (not-false _ (kept _ 7 (n .place) e))
 
-sought-within : (alphabet : List ℕ) (x : Sought) → soughtFaults alphabet x ≡ [] → SoughtWithin alphabet x
-unfolding soughtFaults SoughtWithin
+sought-within : (alphabet : List ℕ) (x : SymbolName) → symbolNameFaults alphabet x ≡ [] → SoughtWithin alphabet x
+unfolding symbolNameFaults SoughtWithin
 sought-within alphabet (letter l) e = isIn-mem (l .byte) alphabet (not-false _ (kept _ 6 (l .place) e))
 sought-within alphabet lend e = tt
 sought-within alphabet rend e = tt

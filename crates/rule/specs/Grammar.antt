@@ -5,23 +5,23 @@ use mathlib.Core.List.{List, [], _∷_}
 use Rattle.text.specs.Token.{Token, w, s}
 use Rattle.text.specs.Tokens.{Placed, _at_}
 use Rattle.rule.specs.Tree as Tree
-use Rattle.rule.specs.Tree.{Letter, Sought, Atom, Condition, Plain, Statement, Rest, Statements, Arms, Order, Program, done, _then_}
+use Rattle.rule.specs.Tree.{Letter, SymbolName, Atom, Condition, Plain, Statement, Rest, Statements, Arms, Order, Program, done, _then_}
 
 abbrev pub Ts : Type 0
 Ts = List Placed
 
-pub data IsSought : Ts → Sought → Ts → Type 0 where
-  aLetter : {p b : ℕ} {ts : Ts} → IsSought ((Token.letter b at p) ∷ ts) (Tree.letter (record { byte = b; place = p })) ts
-  lend : {p : ℕ} {ts : Ts} → IsSought ((w "lend" at p) ∷ ts) Tree.lend ts
-  rend : {p : ℕ} {ts : Ts} → IsSought ((w "rend" at p) ∷ ts) Tree.rend ts
+pub data IsSymbolName : Ts → SymbolName → Ts → Type 0 where
+  aLetter : {p b : ℕ} {ts : Ts} → IsSymbolName ((Token.letter b at p) ∷ ts) (Tree.letter (record { byte = b; place = p })) ts
+  lend : {p : ℕ} {ts : Ts} → IsSymbolName ((w "lend" at p) ∷ ts) Tree.lend ts
+  rend : {p : ℕ} {ts : Ts} → IsSymbolName ((w "rend" at p) ∷ ts) Tree.rend ts
 
 -- an atom, with the place of its first word
 pub data IsAtom : Ts → ℕ → Atom → Ts → Type 0 where
-  readIs : {p q : ℕ} {ts us : Ts} {x : Sought}
-      → IsSought ts x us
+  readIs : {p q : ℕ} {ts us : Ts} {x : SymbolName}
+      → IsSymbolName ts x us
       → IsAtom ((w "read" at p) ∷ (s "==" at q) ∷ ts) p (Tree.readIs x) us
-  readIsNot : {p q : ℕ} {ts us : Ts} {x : Sought}
-      → IsSought ts x us
+  readIsNot : {p q : ℕ} {ts us : Ts} {x : SymbolName}
+      → IsSymbolName ts x us
       → IsAtom ((w "read" at p) ∷ (s "!=" at q) ∷ ts) p (Tree.readIsNot x) us
   counterIs : {p q r : ℕ} {n : List ℕ} {ts : Ts}
       → IsAtom ((w "c" at p) ∷ (s "==" at q) ∷ (Token.number n at r) ∷ ts) p (Tree.counterIs (record { digits = n; place = r })) ts

@@ -7,7 +7,7 @@ use lib.Dec.{leb, eqb}
 use Rattle.rule.specs.Tree.{
   Number,
   Letter,
-  Sought,
+  SymbolName,
   letter,
   lend,
   rend,
@@ -98,14 +98,14 @@ unfoldable pub numberFaults : ℕ → Number → List Fault
 numberFaults greatest n = faultIf (not (inForm (n .digits) && leb (value n) greatest)) 7 (n .place)
 
 -- 6: a letter outside the alphabet
-unfoldable pub soughtFaults : List ℕ → Sought → List Fault
-soughtFaults alphabet (letter l) = faultIf (not (isIn (l .byte) alphabet)) 6 (l .place)
-soughtFaults alphabet lend = []
-soughtFaults alphabet rend = []
+unfoldable pub symbolNameFaults : List ℕ → SymbolName → List Fault
+symbolNameFaults alphabet (letter l) = faultIf (not (isIn (l .byte) alphabet)) 6 (l .place)
+symbolNameFaults alphabet lend = []
+symbolNameFaults alphabet rend = []
 
 unfoldable pub atomFaults : List ℕ → Atom → List Fault
-atomFaults alphabet (readIs x) = soughtFaults alphabet x
-atomFaults alphabet (readIsNot x) = soughtFaults alphabet x
+atomFaults alphabet (readIs x) = symbolNameFaults alphabet x
+atomFaults alphabet (readIsNot x) = symbolNameFaults alphabet x
 atomFaults alphabet (counterIs n) = numberFaults 0 n
 atomFaults alphabet (counterIsNot n) = numberFaults 0 n
 

@@ -7,11 +7,11 @@ use mathlib.Core.List.{List}
 use lib.Dec.{leb, eqb}
 use Rattle.cells.specs.Cell as Cell
 use Rattle.cells.specs.Cell.{Symbol, leftMark, rightMark, symbolOn, last}
-use Rattle.rule.specs.Tree.{Sought, letter, lend, rend, Atom, readIs, readIsNot, counterIs, counterIsNot, Condition, atom, parens, negation, both, either, Plain, moveBy, moveBack, gotoLend, gotoRend, increment, decrement, add, subtract, Statement, plain, accept, if, while, choose, branch, Rest, nothing, else, Statements, done, _then_, Arms, lastArm, moreArms, Program}
+use Rattle.rule.specs.Tree.{SymbolName, letter, lend, rend, Atom, readIs, readIsNot, counterIs, counterIsNot, Condition, atom, parens, negation, both, either, Plain, moveBy, moveBack, gotoLend, gotoRend, increment, decrement, add, subtract, Statement, plain, accept, if, while, choose, branch, Rest, nothing, else, Statements, done, _then_, Arms, lastArm, moreArms, Program}
 use Rattle.rule.specs.Limits.{value}
 
 -- `read == x`: a mark differs from every letter, and from the other mark
-unfoldable pub reads : Sought → Symbol → Bool
+unfoldable pub reads : SymbolName → Symbol → Bool
 reads (letter l) leftMark = false
 reads (letter l) (Cell.letter b) = eqb (l .byte) b
 reads (letter l) rightMark = false
@@ -46,19 +46,19 @@ cellAfter word decrement cell = cell
 cellAfter word (add n) cell = cell
 cellAfter word (subtract n) cell = cell
 
--- lowering the counter below zero leaves it at zero where it stops there, and else the run ends
+-- lowering the counter below zero leaves it at zero when decr_on_zero is true, and else the run ends
 unfoldable pub lowered : Bool → ℕ → ℕ → Option ℕ
-lowered stops by counter = cond (leb by counter) (some (counter - by)) (cond stops (some 0) none)
+lowered decrOnZero by counter = cond (leb by counter) (some (counter - by)) (cond decrOnZero (some 0) none)
 
 unfoldable pub counterAfter : Bool → Plain → ℕ → Option ℕ
-counterAfter stops (moveBy n) counter = some counter
-counterAfter stops (moveBack n) counter = some counter
-counterAfter stops gotoLend counter = some counter
-counterAfter stops gotoRend counter = some counter
-counterAfter stops increment counter = some (counter + 1)
-counterAfter stops decrement counter = lowered stops 1 counter
-counterAfter stops (add n) counter = some (counter + value n)
-counterAfter stops (subtract n) counter = lowered stops (value n) counter
+counterAfter decrOnZero (moveBy n) counter = some counter
+counterAfter decrOnZero (moveBack n) counter = some counter
+counterAfter decrOnZero gotoLend counter = some counter
+counterAfter decrOnZero gotoRend counter = some counter
+counterAfter decrOnZero increment counter = some (counter + 1)
+counterAfter decrOnZero decrement counter = lowered decrOnZero 1 counter
+counterAfter decrOnZero (add n) counter = some (counter + value n)
+counterAfter decrOnZero (subtract n) counter = lowered decrOnZero (value n) counter
 
 -- one block's statements, then those after it
 infixr 25 _before_
@@ -78,47 +78,47 @@ pub data Arm : Statements → Arms → Type 0 where
   another : {p o : ℕ} {b c : Statements} {a : Arms} → Arm c a → Arm c (moreArms p o b a)
 
 -- what is left to run, the cell and the counter
-pub record Standing : Type 0 where
+pub record ProgramSituation : Type 0 where
   pub left : Statements
   pub cell : ℕ
   pub counter : ℕ
 
 -- the statement in front, with what comes after it, may go on as these statements, with the cell and the counter as they were
-pub data Turns (symbol : Symbol) (counter : ℕ) : Statement → Statements → Statements → Type 0 where
+pub data Continues (symbol : Symbol) (counter : ℕ) : Statement → Statements → Statements → Type 0 where
   ifHolds : {p o : ℕ} {c : Condition} {b rest : Statements} {e : Rest}
       → holds symbol counter c ≡ true
-      → Turns symbol counter (if p c o b e) rest (b before rest)
+      → Continues symbol counter (if p c o b e) rest (b before rest)
   ifFails : {p o : ℕ} {c : Condition} {b rest : Statements} {e : Rest}
       → holds symbol counter c ≡ false
-      → Turns symbol counter (if p c o b e) rest (otherwise e before rest)
+      → Continues symbol counter (if p c o b e) rest (otherwise e before rest)
   whileHolds : {p o : ℕ} {c : Condition} {b rest : Statements}
       → holds symbol counter c ≡ true
-      → Turns symbol counter (while p c o b) rest (b before (while p c o b then rest))
+      → Continues symbol counter (while p c o b) rest (b before (while p c o b then rest))
   whileFails : {p o : ℕ} {c : Condition} {b rest : Statements}
       → holds symbol counter c ≡ false
-      → Turns symbol counter (while p c o b) rest rest
-  goesRound : {p o : ℕ} {b rest : Statements} → Turns symbol counter (choose p o b) rest (b before (choose p o b then rest))
-  stops : {p o : ℕ} {b rest : Statements} → Turns symbol counter (choose p o b) rest rest
-  firstArm : {p o : ℕ} {b rest : Statements} {a : Arms} → Turns symbol counter (branch p o b a) rest (b before rest)
-  otherArm : {p o : ℕ} {b c rest : Statements} {a : Arms} → Arm c a → Turns symbol counter (branch p o b a) rest (c before rest)
+      → Continues symbol counter (while p c o b) rest rest
+  goesRound : {p o : ℕ} {b rest : Statements} → Continues symbol counter (choose p o b) rest (b before (choose p o b then rest))
+  leavesLoop : {p o : ℕ} {b rest : Statements} → Continues symbol counter (choose p o b) rest rest
+  firstArm : {p o : ℕ} {b rest : Statements} {a : Arms} → Continues symbol counter (branch p o b a) rest (b before rest)
+  otherArm : {p o : ℕ} {b c rest : Statements} {a : Arms} → Arm c a → Continues symbol counter (branch p o b a) rest (c before rest)
 
 -- one step of a run; none starts from `accept`, from `reject` and from the end of the program
-pub data Goes (word : List ℕ) (stopsAtZero : Bool) : Standing → Standing → Type 0 where
+pub data ProgramStep (word : List ℕ) (decrOnZero : Bool) : ProgramSituation → ProgramSituation → Type 0 where
   does : {e : Plain} {rest : Statements} {p cell counter counter′ : ℕ}
-      → counterAfter stopsAtZero e counter ≡ some counter′
-      → Goes word stopsAtZero
+      → counterAfter decrOnZero e counter ≡ some counter′
+      → ProgramStep word decrOnZero
       (record { left = plain p e then rest; cell = cell; counter = counter })
       (record { left = rest; cell = cellAfter word e cell; counter = counter′ })
-  turns : {a : Statement} {rest next : Statements} {cell counter : ℕ}
-      → Turns (symbolOn word cell) counter a rest next
-      → Goes word stopsAtZero
+  continues : {a : Statement} {rest next : Statements} {cell counter : ℕ}
+      → Continues (symbolOn word cell) counter a rest next
+      → ProgramStep word decrOnZero
       (record { left = a then rest; cell = cell; counter = counter })
       (record { left = next; cell = cell; counter = counter })
 
 -- reached by a run of the program that starts at the left end, cell 0, with counter 0, and whose counter is never above the limit
-pub data Comes (p : Program) (word : List ℕ) (limit : ℕ) : Standing → Type 0 where
-  begins : Comes p word limit (record { left = p .body; cell = 0; counter = 0 })
-  goes : {s t : Standing} → Comes p word limit s → Goes word (p .stops) s t → t .counter ≤ limit → Comes p word limit t
+pub data ProgramReach (p : Program) (word : List ℕ) (limit : ℕ) : ProgramSituation → Type 0 where
+  begins : ProgramReach p word limit (record { left = p .body; cell = 0; counter = 0 })
+  goes : {s t : ProgramSituation} → ProgramReach p word limit s → ProgramStep word (p .stops) s t → t .counter ≤ limit → ProgramReach p word limit t
 
 -- some run of the program within the limit comes to `accept`
 pub record ProgramAccepts (p : Program) (word : List ℕ) (limit : ℕ) : Type 0 where
@@ -126,4 +126,4 @@ pub record ProgramAccepts (p : Program) (word : List ℕ) (limit : ℕ) : Type 0
   pub rest : Statements
   pub cell : ℕ
   pub counter : ℕ
-  pub comes : Comes p word limit (record { left = accept place then rest; cell = cell; counter = counter })
+  pub comes : ProgramReach p word limit (record { left = accept place then rest; cell = cell; counter = counter })

@@ -15,14 +15,14 @@ pub record Letter : Type 0 where
   pub place : ℕ
 
 -- what `read` is compared with
-pub data Sought : Type 0 where
-  letter : Letter → Sought
-  lend : Sought
-  rend : Sought
+pub data SymbolName : Type 0 where
+  letter : Letter → SymbolName
+  lend : SymbolName
+  rend : SymbolName
 
 pub data Atom : Type 0 where
-  readIs : Sought → Atom
-  readIsNot : Sought → Atom
+  readIs : SymbolName → Atom
+  readIsNot : SymbolName → Atom
   counterIs : Number → Atom
   counterIsNot : Number → Atom
 

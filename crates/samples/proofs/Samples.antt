@@ -15,7 +15,7 @@ use Rattle.rule.specs.Limits.{
   valueFrom,
   inForm,
   numberFaults,
-  soughtFaults,
+  symbolNameFaults,
   atomFaults,
   conditionFaults,
   plainFaults,
@@ -53,5 +53,5 @@ use Rattle.samples.specs.Starred.{starred}
 use Rattle.samples.proofs.Prove.{each}
 
 pub starred-hold : EachHolds starred
-unfolding outcome eat bit withBit encode field twoBytes rowBytes rowsBytes flag symbolOn moved symbolFits counterFits changed rowFits scan letterBytes faults faultIf letterFaults isIn valueFrom inForm numberFaults soughtFaults atomFaults conditionFaults plainFaults statementsFaults truthFaults inOrder settingsFaults construct programPart statementsPart withBits andThen armPart loopPart ifPart test walk oneAfterOther oneOrOther atomRows symbolRows without countUp symbolCode indexIn changeCode moveCode compileLine digits onlyRow
+unfolding outcome eat bit withBit encode field twoBytes rowBytes rowsBytes flag symbolOn moved symbolFits counterFits changed rowFits scan letterBytes faults faultIf letterFaults isIn valueFrom inForm numberFaults symbolNameFaults atomFaults conditionFaults plainFaults statementsFaults truthFaults inOrder settingsFaults construct programPart statementsPart withBits andThen armPart loopPart ifPart test walk oneAfterOther oneOrOther atomRows symbolRows without countUp symbolCode indexIn changeCode moveCode compileLine digits onlyRow
 starred-hold = each starred tt

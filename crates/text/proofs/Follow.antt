@@ -6,7 +6,7 @@ use mathlib.Core.List.{List, [], _∷_}
 use lib.ListN.{length, drop, length-drop}
 use Rattle.text.specs.Tokens.{Placed, _at_, Ending, ends, broken, Tokens}
 use Rattle.text.specs.Tokens as Of
-use Rattle.text.specs.First.{Begins, First}
+use Rattle.text.specs.First.{Begins, FirstToken}
 use Rattle.text.specs.declared.Token.{Token}
 use Rattle.text.specs.declared.Token.the-variants as Token
 use Rattle.text.specs.declared.Word.{Word}
@@ -17,10 +17,10 @@ use Rattle.text.proofs.Ending.{EndsAt, ends-from}
 -- the tokens from a byte on begin with what is answered there, once it is matched
 pub follows : {text : List ℕ} {p : ℕ} {r s : Token} {ts : List Placed} {e : Ending}
     → Tokens p (drop p text) ts e
-    → First text p r
+    → FirstToken text p r
     → r ≡ s
     → Begins text ts e s
-follows {text} {p} h f e = comes h (subst (First text p) e f)
+follows {text} {p} h f e = comes h (subst (FirstToken text p) e f)
 
 -- where an answer stands
 abbrev pub placeOf : Token → ℕ
@@ -53,13 +53,13 @@ module _ (text : List ℕ) (ts : List Placed) (e : Ending) where
   begins-place (Token.Broken p) b = rw (b .none, b .ended)
 
 -- no answer stands before the byte from which it was asked for, so a reader goes on
-pub first-onward : {text : List ℕ} {p : ℕ} {r : Token} → First text p r → p ≤ placeOf r
+pub first-onward : {text : List ℕ} {p : ℕ} {r : Token} → FirstToken text p r → p ≤ placeOf r
 first-onward {text} {r = r} f = omega (arith, tokens-onward (f .all), begins-place text (f .tokens) (f .ending) r (f .begins))
 
 -- tokens that are left end with the text
-first-ends : {text : List ℕ} {p : ℕ} {r : Token} (e : Ending) (f : First text p r) → f .ending ≡ e → EndsAt e (p + length (drop p text))
+first-ends : {text : List ℕ} {p : ℕ} {r : Token} (e : Ending) (f : FirstToken text p r) → f .ending ≡ e → EndsAt e (p + length (drop p text))
 first-ends {text} {p} e f same = subst (λ (g : Ending). EndsAt g (p + length (drop p text))) same (ends-from (f .all))
 
 -- a broken token stands within the text
-pub broken-at : {text : List ℕ} {p q : ℕ} → First text p (Token.Broken q) → q < length text
+pub broken-at : {text : List ℕ} {p q : ℕ} → FirstToken text p (Token.Broken q) → q < length text
 broken-at {text} {p} {q} f = omega (arith, first-ends (broken q) f (f .begins .ended), first-onward f, length-drop p text)

@@ -27,11 +27,11 @@ pub record Bad (bytes : List ℕ) : Type 0 where
   pub noToken : NoToken bytes
 
 -- what it means that this stands at the front
-abbrev pub Stands : List ℕ → Lexed → Type 0
-Stands bytes over = bytes ≡ []
-Stands bytes (skip n) = Blank bytes n (drop n bytes)
-Stands bytes (found n t) = Found bytes n t
-Stands bytes bad = Bad bytes
+abbrev pub InFront : List ℕ → Lexed → Type 0
+InFront bytes over = bytes ≡ []
+InFront bytes (skip n) = Blank bytes n (drop n bytes)
+InFront bytes (found n t) = Found bytes n t
+InFront bytes bad = Bad bytes
 
 -- a comment's end is where its run stops
 comment-stops : {rest : List ℕ} → CommentEnds rest → T (stops inComment rest)
@@ -84,7 +84,7 @@ module _ (b : ℕ) (bs : List ℕ) where
         noToken = h;
       }
 
-  token-right : (k : Sort) (n : ℕ) → kind b ≡ forToken k → reach k b bs ≡ n → lex (b ∷ bs) ≡ lexToken n k (b ∷ bs) → Stands (b ∷ bs) (lexToken n k (b ∷ bs))
+  token-right : (k : Sort) (n : ℕ) → kind b ≡ forToken k → reach k b bs ≡ n → lex (b ∷ bs) ≡ lexToken n k (b ∷ bs) → InFront (b ∷ bs) (lexToken n k (b ∷ bs))
   unfolding lexToken
   token-right k zero e h q =
       bad-right q (λ l r u z s. let i = bounded k e l r u z s in let j = spells-within r z s .someBytes in omega arith)
@@ -95,7 +95,7 @@ no-slash : (bs : List ℕ) → NoToken (slash ∷ bs)
 unfolding kind
 no-slash bs l r u z s = let k = spells-within r z s .sameKind in let f : _≡_ {A = ℕ} 0 1 = cc in omega arith
 
-comment-right : (bs : List ℕ) → Stands (slash ∷ bs) (lexComment bs)
+comment-right : (bs : List ℕ) → InFront (slash ∷ bs) (lexComment bs)
 unfolding lex
 comment-right [] = bad-right slash [] refl (no-slash [])
 comment-right (c ∷ bs) = after (eqb c slash) refl
@@ -106,28 +106,28 @@ comment-right (c ∷ bs) = after (eqb c slash) refl
     ran : Ran inComment bs n
     ran = run-ran inComment bs
 
-    after : (t : Bool) → eqb c slash ≡ t → Stands (slash ∷ c ∷ bs) (elim t [ true ↦ skip (n + 2) | false ↦ bad ])
+    after : (t : Bool) → eqb c slash ≡ t → InFront (slash ∷ c ∷ bs) (elim t [ true ↦ skip (n + 2) | false ↦ bad ])
     after true e =
-        subst (λ (m : ℕ). Stands (slash ∷ c ∷ bs) (skip (m + 2))) (length-take-le n bs (ran .fits))
+        subst (λ (m : ℕ). InFront (slash ∷ c ∷ bs) (skip (m + 2))) (length-take-le n bs (ran .fits))
         (blank-stands
         (comment (take n bs) (λ i. slash ∷ eqb-true c slash e i ∷ sym (take-append-drop n bs) i) (ran .passes) (stops-comment (drop n bs) (ran .ends))))
     after false e = bad-right slash (c ∷ bs) (rw (e, lexComment)) (no-slash (c ∷ bs))
 
-as-right : (b : ℕ) (bs : List ℕ) (k : Kind) → kind b ≡ k → lex (b ∷ bs) ≡ lexAs k b bs → Stands (b ∷ bs) (lexAs k b bs)
+as-right : (b : ℕ) (bs : List ℕ) (k : Kind) → kind b ≡ k → lex (b ∷ bs) ≡ lexAs k b bs → InFront (b ∷ bs) (lexAs k b bs)
 unfolding lexAs
 as-right b bs (forToken k) e q = token-right b bs k (reach k b bs) e refl q
 as-right b bs forWhite e q = white (kind-says b _ e)
 as-right b bs forComment e q = rw (eqb→eq b slash (kind-says b _ e)) (comment-right bs)
 
 -- what `lex` says stands at the front of the bytes does
-pub lex-right : (bytes : List ℕ) → Stands bytes (lex bytes)
+pub lex-right : (bytes : List ℕ) → InFront bytes (lex bytes)
 unfolding lex
 lex-right [] = refl
 lex-right (b ∷ bs) = as-right b bs (kind b) refl refl
 
 -- so where `lex` says a thing, that stands there
-pub lexed : (bytes : List ℕ) {x : Lexed} → lex bytes ≡ x → Stands bytes x
-lexed bytes e = subst (Stands bytes) e (lex-right bytes)
+pub lexed : (bytes : List ℕ) {x : Lexed} → lex bytes ≡ x → InFront bytes x
+lexed bytes e = subst (InFront bytes) e (lex-right bytes)
 
 -- where white space or a comment stands, no token does
 blank-no-token : {bytes rest : List ℕ} {n : ℕ} → Blank bytes n rest → NoToken bytes
@@ -149,20 +149,20 @@ found-once {bytes} {n} {m} {t} {u} h g =
 found-one : {bytes : List ℕ} {n : ℕ} {t : Token} → Found bytes n t → ¬ NoToken bytes
 found-one h none = none _ _ _ (h .longest .begins) (h .longest .spells)
 
-found-is : {bytes : List ℕ} {n : ℕ} {t : Token} (x : Lexed) → Stands bytes x → Found bytes n t → x ≡ found n t
+found-is : {bytes : List ℕ} {n : ℕ} {t : Token} (x : Lexed) → InFront bytes x → Found bytes n t → x ≡ found n t
 found-is over x h = absurd (found-one h (rw x empty-no-token))
 found-is (skip m) x h = absurd (found-one h (blank-no-token x))
 found-is (found m u) x h = let same = found-once x h in λ i. found (same .0 i) (same .1 i)
 found-is bad x h = absurd (found-one h (x .noToken))
 
-bad-is : {bytes : List ℕ} (x : Lexed) → Stands bytes x → Bad bytes → x ≡ bad
+bad-is : {bytes : List ℕ} (x : Lexed) → InFront bytes x → Bad bytes → x ≡ bad
 bad-is over x h = absurd (h .some x)
 bad-is (skip m) x h = absurd (h .noBlank _ _ x)
 bad-is (found m u) x h = absurd (found-one x (h .noToken))
 bad-is bad x h = refl
 
 -- and nothing else stands there
-pub lex-is : (bytes : List ℕ) (x : Lexed) → Stands bytes x → lex bytes ≡ x
+pub lex-is : (bytes : List ℕ) (x : Lexed) → InFront bytes x → lex bytes ≡ x
 unfolding lex
 lex-is bytes over h = rw h
 lex-is bytes (skip n) h = blank-lex h .0

@@ -8,7 +8,7 @@ use lib.Seq.{length-take-le}
 use Rattle.text.specs.Token.{word, number, letter, sign, Spells, aWord, aNumber, aLetter, aSign}
 use Rattle.text.specs.Token as Spec
 use Rattle.text.specs.Tokens.{Placed, _at_, Ending, ends, broken, Tokens}
-use Rattle.text.specs.First.{part, Next, Begins, First}
+use Rattle.text.specs.First.{part, Next, Begins, FirstToken}
 use Rattle.text.specs.declared.Token.{Token}
 use Rattle.text.specs.declared.Token.the-variants as Token
 use Rattle.text.proofs.Named.{allWords, found, word-is}
@@ -65,14 +65,14 @@ module _ (text : List ℕ) (ts : List Placed) (e : Ending) where
 -- what comes first in the text begins its tokens, however they were found
 pub comes : {text : List ℕ} {p : ℕ} {r : Token} {ts : List Placed} {e : Ending}
     → Tokens p (drop p text) ts e
-    → First text p r
+    → FirstToken text p r
     → Begins text ts e r
 comes {text} {r = r} h f =
     let same = tokens-once (f .all) h in
     subst₂ (λ (us : List Placed) (g : Ending). Begins text us g r) (same .0) (same .1) (f .begins)
 
 -- no second answer fits
-pub first-once : {text : List ℕ} {p : ℕ} {r s : Token} → First text p r → First text p s → r ≡ s
+pub first-once : {text : List ℕ} {p : ℕ} {r s : Token} → FirstToken text p r → FirstToken text p s → r ≡ s
 first-once {text} {r = r} {s = s} f g =
     begins-answer text (f .tokens) (f .ending) r (f .begins)
     ∙ sym (begins-answer text (f .tokens) (f .ending) s (comes (f .all) g))

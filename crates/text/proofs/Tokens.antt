@@ -8,7 +8,7 @@ use lib.Seq.{length-take-le}
 use Rattle.text.specs.Token.{Token}
 use Rattle.text.specs.Tokens.{Placed, _at_, Ending, Blank, white, comment, Tokens, end, blank, token, none, TokensOf}
 use Rattle.text.proofs.Scan.{Lexed, over, skip, found, bad, lex, Scanned, before, step, scanFrom, scan}
-use Rattle.text.proofs.Front.{Found, Stands, lex-right, lex-is, blank-lex, longest-found}
+use Rattle.text.proofs.Front.{Found, InFront, lex-right, lex-is, blank-lex, longest-found}
 use Rattle.text.proofs.Reach.{empty-no-token}
 use Rattle.text.proofs.Ending.{blank-length, longest-length}
 
@@ -34,7 +34,7 @@ found-then {place} {n} {bytes} {t} {ts} {e} h g =
     token (h .longest) (subst (λ (m : ℕ). Tokens (place + m) (drop n bytes) ts e) (sym (length-take-le n bytes (h .fits))) g)
 
 step-right : (b : ℕ) (bs : List ℕ) (place : ℕ) (x : Lexed) (after : ℕ → Scanned)
-    → Stands (b ∷ bs) x
+    → InFront (b ∷ bs) x
     → ((n : ℕ) → 0 < n → Scans (place + n) (drop n (b ∷ bs)) (after n))
     → Scans place (b ∷ bs) (step x place after)
 unfolding step

@@ -107,7 +107,7 @@ Begins text ts e (Token.End place) = Last ts e (ends place)
 Begins text ts e (Token.Broken place) = Last ts e (broken place)
 
 -- what comes first in a text from a byte on: the text has tokens from there, and they begin with it
-pub record First (text : List ℕ) (from : ℕ) (r : Token) : Type 0 where
+pub record FirstToken (text : List ℕ) (from : ℕ) (r : Token) : Type 0 where
   pub tokens : List Placed
   pub ending : Ending
   pub all : Tokens from (drop from text) tokens ending

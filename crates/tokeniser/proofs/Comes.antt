@@ -8,8 +8,8 @@ use lib.Seq.{drop-drop}
 use Rattle.text.specs.Token as Spec
 use Rattle.text.specs.Tokens.{Placed, _at_, Ending, ends, broken, Tokens}
 use Rattle.text.specs.Tokens as Of
-use Rattle.text.specs.First.{Next, Begins, First}
-use Rattle.tokeniser.specs.Inside.Tokenising.{Skips, Steps}
+use Rattle.text.specs.First.{Next, Begins, FirstToken}
+use Rattle.tokeniser.specs.Inside.Tokenising.{Skips, StepRight}
 use Rattle.tokeniser.specs.declared.steps.Step.{Step}
 use Rattle.tokeniser.specs.declared.steps.Step.the-variants as Step
 use Rattle.text.specs.declared.Token.{Token}
@@ -19,7 +19,7 @@ use Rattle.text.proofs.Front.{Found, Bad}
 use Rattle.text.proofs.Tokens.{found-then, scanFrom-right}
 
 -- past the text's last byte is its end
-pub end-first : (text : List ℕ) (p : ℕ) → length text ≤ p → First text p (Token.End p)
+pub end-first : (text : List ℕ) (p : ℕ) → length text ≤ p → FirstToken text p (Token.End p)
 end-first text p h =
     record {
       tokens = [];
@@ -29,7 +29,7 @@ end-first text p h =
     }
 
 -- what comes first behind white space or a comment comes first
-pub skips-first : {text : List ℕ} {p n : ℕ} {r : Token} → Skips text p n → First text n r → First text p r
+pub skips-first : {text : List ℕ} {p n : ℕ} {r : Token} → Skips text p n → FirstToken text n r → FirstToken text p r
 skips-first {text} {p} {n} s f =
     let same : n ≡ p + (n - p) = omega (arith, s .onward) in
     record {
@@ -40,18 +40,18 @@ skips-first {text} {p} {n} s f =
     }
 
 -- what a step answers
-pub step-blank : (text : List ℕ) (p n : ℕ) {s : Step} → Steps text p s → s ≡ Step.Blank n → Skips text p n
-step-blank text p n h e = subst (Steps text p) e h
+pub step-blank : (text : List ℕ) (p n : ℕ) {s : Step} → StepRight text p s → s ≡ Step.Blank n → Skips text p n
+step-blank text p n h e = subst (StepRight text p) e h
 
-pub step-token : (text : List ℕ) (p : ℕ) {r : Token} {s : Step} → Steps text p s → s ≡ Step.Token r → First text p r
-step-token text p h e = subst (Steps text p) e h
+pub step-token : (text : List ℕ) (p : ℕ) {r : Token} {s : Step} → StepRight text p s → s ≡ Step.Token r → FirstToken text p r
+step-token text p h e = subst (StepRight text p) e h
 
 bad-tokens : (p : ℕ) (bytes : List ℕ) → Bad bytes → Tokens p bytes [] (broken p)
 bad-tokens p [] h = absurd (h .some refl)
 bad-tokens p (b ∷ bs) h = Of.none (h .noBlank) (h .noToken)
 
 -- where nothing stands that may, the text is broken
-pub bad-first : {text : List ℕ} {p : ℕ} → Bad (drop p text) → First text p (Token.Broken p)
+pub bad-first : {text : List ℕ} {p : ℕ} → Bad (drop p text) → FirstToken text p (Token.Broken p)
 bad-first {text} {p} h =
     record {
       tokens = [];
@@ -65,7 +65,7 @@ pub token-first : {text : List ℕ} {p e : ℕ} {t : Spec.Token} (r : Token)
     → p < e
     → Found (drop p text) (e - p) t
     → ((ts : List Placed) (g : Ending) → Next text p e t ts g → Begins text ts g r)
-    → First text p r
+    → FirstToken text p r
 token-first {text} {p} {e} {t} r h f answer =
     let after = scanFrom (suc (length (drop e text))) e (drop e text) in
     let rest : Tokens e (drop e text) (after .tokens) (after .ending) = scanFrom-right (suc (length (drop e text))) e (drop e text) (omega arith) in

@@ -13,7 +13,7 @@ use Rattle.bits.specs.Byte.{isDigit, isLetter}
 use Rattle.text.specs.Token.{beginsWord, inWord, quote, signs}
 use Rattle.text.specs.Token as Spec
 use Rattle.text.specs.Tokens.{isWhite, slash, Blank, Placed, Ending}
-use Rattle.text.specs.First.{part, IsWord, written, Next, Begins, First}
+use Rattle.text.specs.First.{part, IsWord, written, Next, Begins, FirstToken}
 use Rattle.tokeniser.specs.Inside.Tokenising.{IsSign, kindOf, inComment, Run, over, stop, on, Skips}
 use Rattle.text.specs.declared.Token.{Token}
 use Rattle.text.specs.declared.Token.the-variants as Token
@@ -104,7 +104,7 @@ module _ (text : List ℕ) (p : ℕ) (inside : p < length text) where
   reach-bad : {k : Sort}
       → kind (getD text p 0) ≡ forToken k
       → reach k (getD text p 0) (drop (suc p) text) ≡ 0
-      → First text p (Token.Broken p)
+      → FirstToken text p (Token.Broken p)
   unfolding lexToken
   reach-bad {k} e r = bad-first (lexed (drop p text) (starts-token e ∙ ap (λ (m : ℕ). lexToken m k (drop p text)) r))
 
@@ -113,7 +113,7 @@ module _ (text : List ℕ) (p : ℕ) (inside : p < length text) where
   span r = omega (arith, rw add-one at (run-length r))
 
   -- a number goes as far as digits do
-  pub number-first : {e : ℕ} → T (isDigit (getD text p 0)) → Run isDigit text (p + 1) e → First text p (Token.Number p e)
+  pub number-first : {e : ℕ} → T (isDigit (getD text p 0)) → Run isDigit text (p + 1) e → FirstToken text p (Token.Number p e)
   unfolding reach made
   number-first {e} d r =
       let more : p < e = omega (arith, run-onward r) in
@@ -124,7 +124,7 @@ module _ (text : List ℕ) (p : ℕ) (inside : p < length text) where
       → T (beginsWord (getD text p 0))
       → Run inWord text (p + 1) e
       → IsWord x (part text p e)
-      → First text p (Token.Word p e x)
+      → FirstToken text p (Token.Word p e x)
   unfolding reach made
   word-first {e} x b r w =
       let more : p < e = omega (arith, run-onward r) in
@@ -136,7 +136,7 @@ module _ (text : List ℕ) (p : ℕ) (inside : p < length text) where
       → Front.Found (drop p text) n u
       → u ≡ t
       → ((ts : List Placed) (g : Ending) → Next text p (p + n) t ts g → Begins text ts g r)
-      → First text p r
+      → FirstToken text p r
   token-at n t r f e answer =
       let size : n ≡ p + n - p = omega arith in
       token-first r (omega (arith, found-some f)) (subst₂ (λ (m : ℕ) (x : Spec.Token). Front.Found (drop p text) m x) size e f) answer
@@ -167,7 +167,7 @@ module _ (text : List ℕ) (p : ℕ) (inside : p < length text) where
     pub letter-first : p + 2 < length text
         → isLetter (getD text (p + 1) 0) ≡ true
         → getD text (p + 2) 0 ≡ quote
-        → First text p (Token.Letter p (p + 3) (getD text (p + 1) 0))
+        → FirstToken text p (Token.Letter p (p + 3) (getD text (p + 1) 0))
     unfolding reach made
     letter-first h e f =
         token-at 3 (Spec.letter (getD text (p + 1) 0)) (Token.Letter p (p + 3) (getD text (p + 1) 0))
@@ -176,12 +176,12 @@ module _ (text : List ℕ) (p : ℕ) (inside : p < length text) where
         (λ ts g n. n)
 
     -- none where the text is over before
-    pub letter-short : length text - p < 3 → First text p (Token.Broken p)
+    pub letter-short : length text - p < 3 → FirstToken text p (Token.Broken p)
     unfolding reach
     letter-short h = reach-bad letter-kind (short-reach (drop (suc p) text) (omega (arith, length-drop (suc p) text)))
 
     -- or the byte is no letter
-    pub letter-other : p + 2 < length text → isLetter (getD text (p + 1) 0) ≡ false → First text p (Token.Broken p)
+    pub letter-other : p + 2 < length text → isLetter (getD text (p + 1) 0) ≡ false → FirstToken text p (Token.Broken p)
     unfolding reach
     letter-other h e = reach-bad letter-kind (quoted false (eqb (getD text (p + 2) 0) quote) h e refl)
 
@@ -189,13 +189,13 @@ module _ (text : List ℕ) (p : ℕ) (inside : p < length text) where
     pub letter-open : p + 2 < length text
         → isLetter (getD text (p + 1) 0) ≡ true
         → ¬ (getD text (p + 2) 0 ≡ quote)
-        → First text p (Token.Broken p)
+        → FirstToken text p (Token.Broken p)
     unfolding reach
     letter-open h e f = reach-bad letter-kind (quoted true false h e (ne-eqb _ quote f))
 
   module _ (s : kind (getD text p 0) ≡ forToken ofSign) where
     -- a sign of two bytes, where they are one
-    two-first : (x : Sign) → (getD text p 0 ∷ getD text (p + 1) 0 ∷ []) ≡ written x → First text p (Token.Sign p (p + 2) x)
+    two-first : (x : Sign) → (getD text p 0 ∷ getD text (p + 1) 0 ∷ []) ≡ written x → FirstToken text p (Token.Sign p (p + 2) x)
     unfolding reach made
     two-first x e =
         let second = nth 0 (p + 1) (omega arith) in
@@ -209,7 +209,7 @@ module _ (text : List ℕ) (p : ℕ) (inside : p < length text) where
     one-first : (x : Sign)
         → ¬ List·Memᴰ (getD text p 0 ∷ getD text (p + 1) 0 ∷ []) signs
         → (getD text p 0 ∷ []) ≡ written x
-        → First text p (Token.Sign p (p + 1) x)
+        → FirstToken text p (Token.Sign p (p + 1) x)
     unfolding reach made
     one-first x two e =
         let second = nth 0 (p + 1) (omega arith) in
@@ -221,7 +221,7 @@ module _ (text : List ℕ) (p : ℕ) (inside : p < length text) where
     -- and else none
     sign-bad : ¬ List·Memᴰ (getD text p 0 ∷ getD text (p + 1) 0 ∷ []) signs
         → ¬ List·Memᴰ (getD text p 0 ∷ []) signs
-        → First text p (Token.Broken p)
+        → FirstToken text p (Token.Broken p)
     unfolding reach
     sign-bad two one = reach-bad s (none-long (getD text p 0) (drop (suc p) text) one (rw (nth 0 (p + 1) (omega arith)) two))
 
@@ -234,25 +234,25 @@ module _ (text : List ℕ) (p : ℕ) (inside : p < length text) where
       answered : {q : Found} → r ≡ q → IsSign (getD text p 0 ∷ getD text (p + 1) 0 ∷ []) q
       answered e = subst₂ (λ (c : ℕ) (q : Found). IsSign (getD text p 0 ∷ c ∷ []) q) second e two
 
-      pub pair-first : (x : Sign) → r ≡ Found.Sign x → First text p (Token.Sign p (p + 2) x)
+      pub pair-first : (x : Sign) → r ≡ Found.Sign x → FirstToken text p (Token.Sign p (p + 2) x)
       pair-first x e = two-first signs-kind x (answered e)
 
       pub single-first : (x : Sign) {q : Found}
           → r ≡ Found.Nothing
           → IsSign (getD text p 0 ∷ []) q
           → q ≡ Found.Sign x
-          → First text p (Token.Sign p (p + 1) x)
+          → FirstToken text p (Token.Sign p (p + 1) x)
       single-first x e one f = one-first signs-kind x (answered e) (subst (IsSign (getD text p 0 ∷ [])) f one)
 
       pub neither-first : {q : Found}
           → r ≡ Found.Nothing
           → IsSign (getD text p 0 ∷ []) q
           → q ≡ Found.Nothing
-          → First text p (Token.Broken p)
+          → FirstToken text p (Token.Broken p)
       neither-first e one f = sign-bad signs-kind (answered e) (subst (IsSign (getD text p 0 ∷ [])) f one)
 
   -- no sign begins with a byte of another kind
-  pub other-bad : kindOf (getD text p 0) ≡ Kinds.Other → First text p (Token.Broken p)
+  pub other-bad : kindOf (getD text p 0) ≡ Kinds.Other → FirstToken text p (Token.Broken p)
   other-bad k = sign-bad (kind-sorted (getD text p 0) k) (no-begin (getD text p 0) k) (no-begin (getD text p 0) k)
 
   -- white space or a comment up to a place
@@ -288,7 +288,7 @@ module _ (text : List ℕ) (p : ℕ) (inside : p < length text) where
       ∙ (ap (λ (l : List ℕ). skip (run inComment l + 2)) body ∙ ap skip long)))
 
   -- and else nothing
-  pub slash-bad : getD text p 0 ≡ slash → ¬ (getD text (p + 1) 0 ≡ slash) → First text p (Token.Broken p)
+  pub slash-bad : getD text p 0 ≡ slash → ¬ (getD text (p + 1) 0 ≡ slash) → FirstToken text p (Token.Broken p)
   unfolding lexAs
   slash-bad s h =
       let other : ¬ (getD (drop (suc p) text) 0 0 ≡ slash) = rw (nth 0 (p + 1) (omega arith)) h in

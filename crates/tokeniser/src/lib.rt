@@ -1,5 +1,5 @@
 // The tokens of a text, one at a time: whoever reads a text asks for what comes first from a byte on, and goes on where that ends.
-ghost use Rattle.text.specs.First.{First};
+ghost use Rattle.text.specs.First.{FirstToken};
 
 mod ends; // where a run of bytes ends
 mod kinds; // the kind of a byte
@@ -13,7 +13,7 @@ use text::Token;
 
 // What comes first from a byte on, past white space and comments.
 pub fn token_at(text: &[u8], from: usize) -> Token
-    ensures { λ r. ⌜ First (now (text .entry)) from r ⌝ }
+    ensures { λ r. ⌜ FirstToken (now (text .entry)) from r ⌝ }
 {
     let mut at = from;
     while at < text.len() {

@@ -6,8 +6,8 @@ ghost use lib.ListN.{length, getD};
 ghost use Rattle.bits.specs.Byte.{isDigit};
 ghost use Rattle.text.specs.Token.{beginsWord, quote};
 ghost use Rattle.text.specs.Tokens.{slash};
-ghost use Rattle.text.specs.First.{First};
-ghost use Rattle.tokeniser.specs.Inside.Tokenising.{kindOf, Steps};
+ghost use Rattle.text.specs.First.{FirstToken};
+ghost use Rattle.tokeniser.specs.Inside.Tokenising.{kindOf, StepRight};
 ghost use Rattle.tokeniser.specs.declared.kinds.Kind.the-variants as Kind;
 use super::ends::comment_end;
 use super::ends::number_end;
@@ -28,7 +28,7 @@ pub enum Step {
 
 pub fn step_at(text: &[u8], at: usize) -> Step
     requires { ⌜ at < length (now text) ⌝ }
-    ensures { λ r. ⌜ Steps (now (text .entry)) at r ⌝ }
+    ensures { λ r. ⌜ StepRight (now (text .entry)) at r ⌝ }
 {
     match kind_of(text[at]) {
         Kind::Digit => Step::Token(number_at(text, at)),
@@ -44,7 +44,7 @@ pub fn step_at(text: &[u8], at: usize) -> Step
 
 fn number_at(text: &[u8], at: usize) -> Token
     requires { ⌜ (at < length (now text)) × T (isDigit (getD (now text) at 0)) ⌝ }
-    ensures { λ r. ⌜ First (now (text .entry)) at r ⌝ }
+    ensures { λ r. ⌜ FirstToken (now (text .entry)) at r ⌝ }
 {
     Token::Number {
         at,
@@ -54,7 +54,7 @@ fn number_at(text: &[u8], at: usize) -> Token
 
 fn word_at(text: &[u8], at: usize) -> Token
     requires { ⌜ (at < length (now text)) × T (beginsWord (getD (now text) at 0)) ⌝ }
-    ensures { λ r. ⌜ First (now (text .entry)) at r ⌝ }
+    ensures { λ r. ⌜ FirstToken (now (text .entry)) at r ⌝ }
 {
     let end = word_end(text, at + 1);
     Token::Word {
@@ -66,7 +66,7 @@ fn word_at(text: &[u8], at: usize) -> Token
 
 fn letter_at(text: &[u8], at: usize) -> Token
     requires { ⌜ (at < length (now text)) × (getD (now text) at 0 ≡ quote) ⌝ }
-    ensures { λ r. ⌜ First (now (text .entry)) at r ⌝ }
+    ensures { λ r. ⌜ FirstToken (now (text .entry)) at r ⌝ }
 {
     if text.len() - at < 3 {
         return Token::Broken { at };
@@ -88,7 +88,7 @@ fn letter_at(text: &[u8], at: usize) -> Token
 // A slash begins a comment, or nothing.
 fn slash_at(text: &[u8], at: usize) -> Step
     requires { ⌜ (at < length (now text)) × (getD (now text) at 0 ≡ slash) ⌝ }
-    ensures { λ r. ⌜ Steps (now (text .entry)) at r ⌝ }
+    ensures { λ r. ⌜ StepRight (now (text .entry)) at r ⌝ }
 {
     if byte_at(text, at + 1) != b'/' {
         return Step::Token(Token::Broken { at });
@@ -101,7 +101,7 @@ fn slash_at(text: &[u8], at: usize) -> Step
 // The longer sign comes first.
 fn sign_at(text: &[u8], at: usize) -> Token
     requires { ⌜ (at < length (now text)) × (kindOf (getD (now text) at 0) ≡ Kind.Sign) ⌝ }
-    ensures { λ r. ⌜ First (now (text .entry)) at r ⌝ }
+    ensures { λ r. ⌜ FirstToken (now (text .entry)) at r ⌝ }
 {
     let first = text[at];
     match pair(first, byte_at(text, at + 1)) {

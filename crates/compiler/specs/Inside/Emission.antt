@@ -38,7 +38,7 @@ use Rattle.construction.specs.Construction.{
   armsPart,
 }
 use Rattle.compiler.specs.Inside.Writing.{Sheet, Filled, Writes}
-use Rattle.compiler.specs.Inside.Seeing.{Here, Passes}
+use Rattle.compiler.specs.Inside.Seeing.{Here, GoesPast}
 use Rattle.compiler.specs.declared.Place.{Place}
 use Rattle.compiler.specs.declared.walk.Course.{Course}
 
@@ -140,7 +140,7 @@ abbrev pub viaNext : Bool → ℕ → ℕ
 viaNext true next = suc next
 viaNext false next = next
 
-pub record Goes (taking : Bool) (to : ℕ) (place : Place) (course : Course) : Type 0 where
+pub record Leads (taking : Bool) (to : ℕ) (place : Place) (course : Course) : Type 0 where
   pub first : course .to ≡ viaTo taking to (place .next)
   pub second : course .from ≡ viaFrom taking (place .state) (place .next)
   pub takes : course .next ≡ viaNext taking (place .next)
@@ -186,15 +186,15 @@ stepRow motion change p q =
     record { from = p; symbol = anySymbol; test = eitherCounter; move = motion; change = change; to = q }
 
 -- it is written, and the text goes on behind so many tokens from a place on
-pub record Steps (text before after : List ℕ) (place : Place) (from many motion change : ℕ) (r : Place) : Type 0 where
-  pub passes : Passes text from many (r .at)
+pub record WritesStep (text before after : List ℕ) (place : Place) (from many motion change : ℕ) (r : Place) : Type 0 where
+  pub passes : GoesPast text from many (r .at)
   pub state : r .state ≡ place .next
   pub takes : r .next ≡ suc (place .next)
   pub writes : Writes before after (place .row) (r .row) (λ _. stepRow motion change (place .state) (place .next) ∷ [])
 
 -- a state is taken without a row
 pub record Stops (text : List ℕ) (place r : Place) : Type 0 where
-  pub passes : Passes text (place .at) 1 (r .at)
+  pub passes : GoesPast text (place .at) 1 (r .at)
   pub state : r .state ≡ place .next
   pub takes : r .next ≡ suc (place .next)
   pub row : r .row ≡ place .row

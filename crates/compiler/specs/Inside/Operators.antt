@@ -14,11 +14,11 @@ use Rattle.compiler.specs.declared.ahead.Looked.{Looked}
 use Rattle.compiler.specs.declared.ahead.Looked.the-variants.{Answer, On}
 
 -- what counts: parentheses and operators
-pub data Mark : Type 0 where
-  opening closing and or other : Mark
+pub data Bracketing : Type 0 where
+  opening closing and or other : Bracketing
 
 -- what a mark says of the operator sought, `||` or else `&&`, with so many parentheses open
-unfoldable pub lookAt : Mark → ℕ → Bool → Looked
+unfoldable pub lookAt : Bracketing → ℕ → Bool → Looked
 lookAt opening depth sought = On (suc depth)
 lookAt closing zero sought = Answer false
 lookAt closing (suc depth) sought = On depth
@@ -29,7 +29,7 @@ lookAt and zero false = Answer true
 lookAt and (suc depth) sought = On (suc depth)
 lookAt other depth sought = On depth
 
-abbrev pub markOf : Sign → Mark
+abbrev pub markOf : Sign → Bracketing
 markOf Sign.Becomes = other
 markOf Sign.Equals = other
 markOf Sign.Differs = other
@@ -50,7 +50,7 @@ markOf Sign.CloseBracket = other
 markOf Sign.Comma = other
 markOf Sign.Semicolon = other
 
-abbrev pub marked : Token → Mark
+abbrev pub marked : Token → Bracketing
 marked t =
     elim (sameToken t (s "(")) [
       | true ↦ opening

@@ -58,7 +58,7 @@ pub record Reaches (text : List ℕ) (from many end : ℕ) (us : List Placed) : 
   pub onward : from + many ≤ end
   pub here : Here text end us
 
-pub record Passes (text : List ℕ) (from many end : ℕ) : Type 0 where
+pub record GoesPast (text : List ℕ) (from many end : ℕ) : Type 0 where
   pub behind : (ts : List Placed) → Here text from ts → many ≤ length ts → Reaches text from many end (drop many ts)
 
 -- digits whose value is at most 63

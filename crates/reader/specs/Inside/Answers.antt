@@ -41,7 +41,7 @@ abbrev pub totals : List ℕ → Counts → Totals
 totals alphabet counts = record { alphabet = alphabet; states = counts .states; rows = counts .rows }
 
 -- from one spot the machine comes to another, whatever is expected after that
-pub record Comes (text : List ℕ) (s z : Spot) : Type 0 where
+pub record ComesTo (text : List ℕ) (s z : Spot) : Type 0 where
   pub before : List Placed
   pub after : List Placed
   pub ending : Ending
@@ -65,7 +65,7 @@ pub record Ready (text : List ℕ) (from : ℕ) (counts : Counts) : Type 0 where
   pub rows : counts .rows ≤ 18 * from
 
 pub record Further (text : List ℕ) (s z : Spot) (counts : Counts) : Type 0 where
-  pub comes : Comes text s z
+  pub comes : ComesTo text s z
   pub ready : Ready text (z .from) counts
 
 abbrev pub Right : List ℕ → Spot → Stack → List ℕ → Read → Type 0

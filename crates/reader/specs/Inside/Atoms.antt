@@ -7,13 +7,13 @@ use lib.ListN.{length, drop}
 use Rattle.text.specs.Token as Spelt
 use Rattle.text.specs.Token.{s}
 use Rattle.text.specs.Tokens.{Placed, _at_, Ending, Tokens}
-use Rattle.text.specs.First.{First}
+use Rattle.text.specs.First.{FirstToken}
 use Rattle.text.specs.declared.Token.{Token}
 use Rattle.text.specs.declared.Token.the-variants as Token
 use Rattle.rule.specs.Tree as Tree
 use Rattle.rule.specs.Grammar.{Ts, IsAtom}
 use Rattle.rule.specs.Limits.{isIn, numberFaults}
-use Rattle.rule.specs.Inside.Machine.{Symbol, Totals}
+use Rattle.rule.specs.Inside.Machine.{Expected, Totals}
 use Rattle.reader.specs.Atom.{refusalOf}
 use Rattle.reader.specs.Inside.Answers.{spot, Stops}
 use Rattle.reader.specs.declared.atoms.Symbol.{Symbol as Sought}
@@ -26,7 +26,7 @@ use Rattle.reader.specs.declared.atoms.AtomRead.{AtomRead}
 use Rattle.reader.specs.declared.atoms.AtomRead.the-variants.{Found, Refused}
 
 -- an atom of the code is this one of the tree
-abbrev pub symbolOf : Tree.Sought → Sought
+abbrev pub symbolOf : Tree.SymbolName → Sought
 symbolOf (Tree.letter l) = Sought.Letter (l .byte) (l .place)
 symbolOf Tree.lend = Sought.Lend
 symbolOf Tree.rend = Sought.Rend
@@ -85,7 +85,7 @@ isSign (Token.Broken p) = false
 -- no sign comes first here
 pub record NoSign (text : List ℕ) (from : ℕ) : Type 0 where
   pub token : Token
-  pub first : First text from token
+  pub first : FirstToken text from token
   pub none : isSign token ≡ false
 
 -- the tokens from one byte to another, behind some others, are an atom, whose first word is at this place
@@ -103,10 +103,10 @@ pub record IsFound (text : List ℕ) (from : ℕ) (lead : Ts → Ts) (atom : Ato
   pub forth : from < to
   pub inside : to ≤ length text
 
-abbrev pub TestsRight : List ℕ → ℕ → (Ts → Ts) → Symbol → AtomRead → Type 0
+abbrev pub TestsRight : List ℕ → ℕ → (Ts → Ts) → Expected → AtomRead → Type 0
 TestsRight text from lead x (Found atom to) = IsFound text from lead atom to
 TestsRight text from lead x (Refused r) = (t : Totals) → Stops text (spot from (x ∷ []) t) r
 
 -- behind these tokens stands an atom, whatever letter it has, or else the machine, which expects this, refuses
-pub record Tests (text : List ℕ) (from : ℕ) (lead : Ts → Ts) (x : Symbol) (r : AtomRead) : Type 0 where
+pub record Tests (text : List ℕ) (from : ℕ) (lead : Ts → Ts) (x : Expected) (r : AtomRead) : Type 0 where
   pub right : TestsRight text from lead x r

@@ -8,10 +8,10 @@ use lib.Dec.{T, leb}
 use Rattle.text.specs.Token.{Token, s}
 use Rattle.text.specs.Tokens.{_at_}
 use Rattle.rule.specs.Tree as Tree
-use Rattle.rule.specs.Tree.{Letter, Sought, Atom, Condition, Plain, Statement, Rest, Statements, Arms, Order, Program, done, _then_}
+use Rattle.rule.specs.Tree.{Letter, SymbolName, Atom, Condition, Plain, Statement, Rest, Statements, Arms, Order, Program, done, _then_}
 use Rattle.rule.specs.Grammar as Grammar
 use Rattle.rule.specs.Grammar.{
-  IsSought,
+  IsSymbolName,
   IsAtom,
   Binding,
   loosest,
@@ -30,9 +30,9 @@ use Rattle.rule.specs.Grammar.{
   IsSettings,
   IsProgram,
 }
-use Rattle.rule.specs.Inside.Class.{Mark, classify}
+use Rattle.rule.specs.Inside.Class.{Fixed, classify}
 use Rattle.rule.specs.Inside.Machine as Machine
-use Rattle.rule.specs.Inside.Machine.{Symbol, Stack, Value, Values, operand, tail, block, statements, orElse, arms, orAlso}
+use Rattle.rule.specs.Inside.Machine.{Expected, Stack, Value, Values, operand, tail, block, statements, orElse, arms, orAlso}
 use Rattle.rule.proofs.Machine.Steps.{Ts, Is, is, Far, State, state, begin, eat}
 use Rattle.rule.proofs.Machine.Follow.{unlike, eat-no-else, eat-no-also}
 use Rattle.rule.proofs.Machine.Far.{
@@ -53,12 +53,12 @@ use Rattle.rule.proofs.Machine.Far.{
 }
 
 -- the symbol takes the tokens up to these, gives this, and comes so far
-abbrev pub Eats : (x : Symbol) → Ts → Value x → (Far → Far) → Ts → Type 0
+abbrev pub Eats : (x : Expected) → Ts → Value x → (Far → Far) → Ts → Type 0
 Eats x ts v f us =
     (st : Stack) (a : Far) (k : Values (x ∷ st) → Program)
     → eat (state (x ∷ st) a k) ts ≡ eat (state st (f a) (λ vs. k (v, vs))) us
 
-sought-eats : {ts us : Ts} {x : Sought} → IsSought ts x us → Eats Machine.sought ts x (soughtFar x) us
+sought-eats : {ts us : Ts} {x : SymbolName} → IsSymbolName ts x us → Eats Machine.symbolName ts x (soughtFar x) us
 unfolding eat soughtFar
 sought-eats Grammar.aLetter st a k = refl
 sought-eats Grammar.lend st a k = refl
@@ -157,8 +157,8 @@ plain-eats Grammar.subtract d st a k = refl
 -- the tokens begin with neither `else` nor `also`, as statements up to `}` do
 data Starts : Ts → Type 0 where
   starts : {u : Token} {p : ℕ} {ts : Ts}
-      → T (unlike Mark.else (classify u))
-      → T (unlike Mark.also (classify u))
+      → T (unlike Fixed.else (classify u))
+      → T (unlike Fixed.also (classify u))
       → Starts ((u at p) ∷ ts)
 
 statements-start : {ts us vs : Ts} {b : Statements} → IsStatements ts b us → Is (s "}") us vs → Starts ts

@@ -12,7 +12,7 @@ use borrow.Author.Tests.{lt-ltb, le-ltb, le-leb, lt-leb, eq-eqb, ne-eqb}
 use Rattle.bits.specs.Byte.{isDigit}
 use Rattle.bits.proofs.Tests.{and-left, and-right, and-of}
 use Rattle.text.specs.Token.{every, number, Spells, aNumber}
-use Rattle.text.specs.First.{part, First}
+use Rattle.text.specs.First.{part, FirstToken}
 use Rattle.text.specs.declared.Token.{Token}
 use Rattle.text.specs.declared.Token.the-variants as Token
 use Rattle.rule.specs.Limits.{inForm, valueFrom}
@@ -75,5 +75,5 @@ spells-digits : {l n : List ℕ} → Spells l (number n) → T (every isDigit l)
 spells-digits (aNumber {b = b} {bs = bs} t u) = and-of (isDigit b) (every isDigit bs) t u
 
 -- the bytes of a number are digits
-pub number-digits : {text : List ℕ} {from p q : ℕ} {k : Token} → First text from k → k ≡ Token.Number p q → T (every isDigit (part text p q))
-number-digits {text} {from} f e = spells-digits (subst (λ (u : Token). First text from u) e f .begins .bytes)
+pub number-digits : {text : List ℕ} {from p q : ℕ} {k : Token} → FirstToken text from k → k ≡ Token.Number p q → T (every isDigit (part text p q))
+number-digits {text} {from} f e = spells-digits (subst (λ (u : Token). FirstToken text from u) e f .begins .bytes)

@@ -7,7 +7,7 @@ use lib.Dec.{leb}
 use Rattle.rule.specs.Tree.{
   Number,
   Letter,
-  Sought,
+  SymbolName,
   letter,
   lend,
   rend,
@@ -68,7 +68,7 @@ notes b n p s = record { totals = s .totals; seen = noted b n p (s .seen) }
 abbrev pub numberFar : ℕ → Number → Far → Far
 numberFar greatest n = notes (outside greatest (n .digits)) 7 (n .place)
 
-unfoldable pub soughtFar : Sought → Far → Far
+unfoldable pub soughtFar : SymbolName → Far → Far
 soughtFar (letter l) s = notes (not (isIn (l .byte) (s .totals .alphabet))) 6 (l .place) s
 soughtFar lend s = s
 soughtFar rend s = s

@@ -10,9 +10,9 @@ use Rattle.text.specs.Tokens.{_at_, Ending, ends, broken}
 use Rattle.text.proofs.Same.{sameToken}
 use Rattle.rule.specs.Tree as Tree
 use Rattle.rule.specs.Tree.{Program}
-use Rattle.rule.specs.Inside.Class.{Mark, spell, Class, mark, number, letter, other, classify}
+use Rattle.rule.specs.Inside.Class.{Fixed, spell, Class, mark, number, letter, other, classify}
 use Rattle.rule.specs.Inside.Machine.{
-  Symbol,
+  Expected,
   statements,
   orElse,
   orAlso,
@@ -36,18 +36,18 @@ use Rattle.rule.specs.Inside.Machine.{
 use Rattle.rule.proofs.Machine.Steps.{Ts, Far, state, follow, eat, _>>=_, run-stops, run-breaks, run-passes}
 
 -- a token of this class is not the mark
-abbrev pub unlike : Mark → Class → Bool
+abbrev pub unlike : Fixed → Class → Bool
 unlike m (mark k) = not (sameToken (spell k) (spell m))
 unlike m (number n) = true
 unlike m (letter b) = true
 unlike m (other u) = true
 
 -- the first of the tokens, if there is one, is not the mark
-abbrev pub notFirst : Mark → Ts → Bool
+abbrev pub notFirst : Fixed → Ts → Bool
 notFirst m [] = true
 notFirst m ((u at p) ∷ us) = unlike m (classify u)
 
-take-unlike : {A : Type 0} (m : Mark) (r : Move A) (k : Class) → T (unlike m k) → take (on m r) k ≡ none
+take-unlike : {A : Type 0} (m : Fixed) (r : Move A) (k : Class) → T (unlike m k) → take (on m r) k ≡ none
 take-unlike {A} m r (mark k) h = go (sameToken (spell k) (spell m)) h
   where
     go : (b : Bool) → T (not b) → _≡_ {A = Option (Move A)} (elim b [ true ↦ some r | false ↦ none ]) none
@@ -95,7 +95,7 @@ module _ {A B : Type 0} (f : A → B) where
       go (some m) h = refl
 
 -- a symbol with the choices of another, each turned so, and one more in front
-module _ (x y : Symbol) (f : Value y → Value x) (m : Mark)
+module _ (x y : Expected) (f : Value y → Value x) (m : Fixed)
     (alike : (t : Totals) (p : ℕ) → (r : Move (Value x)) × (choices t p x ≡ on m r ∷ map (alongChoice f) (choices t p y))) where
   move-alike : (t : Totals) (u : Token) (p : ℕ) → T (unlike m (classify u)) → move x t (u at p) ≡ turned f (move y t (u at p))
   unfolding move
@@ -139,22 +139,22 @@ module _ (x y : Symbol) (f : Value y → Value x) (m : Mark)
       go (some z) = refl
 
 -- where no `else` comes first, statements are expected
-pub run-no-else : (d : ℕ) (st : Stack) (t : Totals) (ts : Ts) (e : Ending) → T (notFirst Mark.else ts) → run (orElse d ∷ st) t ts e ≡ run (statements d ∷ st) t ts e
-run-no-else d = run-alike (orElse d) (statements d) (λ a. (Tree.nothing, a)) Mark.else (λ t p. (_, refl))
+pub run-no-else : (d : ℕ) (st : Stack) (t : Totals) (ts : Ts) (e : Ending) → T (notFirst Fixed.else ts) → run (orElse d ∷ st) t ts e ≡ run (statements d ∷ st) t ts e
+run-no-else d = run-alike (orElse d) (statements d) (λ a. (Tree.nothing, a)) Fixed.else (λ t p. (_, refl))
 
 -- where no `also` comes first, statements are expected
-pub run-no-also : (d n : ℕ) (st : Stack) (t : Totals) (ts : Ts) (e : Ending) → T (notFirst Mark.also ts) → run (orAlso d n ∷ st) t ts e ≡ run (statements d ∷ st) t ts e
-run-no-also d n = run-alike (orAlso d n) (statements d) (λ b. (Tree.lastArm, b)) Mark.also (λ t p. (_, refl))
+pub run-no-also : (d n : ℕ) (st : Stack) (t : Totals) (ts : Ts) (e : Ending) → T (notFirst Fixed.also ts) → run (orAlso d n ∷ st) t ts e ≡ run (statements d ∷ st) t ts e
+run-no-also d n = run-alike (orAlso d n) (statements d) (λ b. (Tree.lastArm, b)) Fixed.also (λ t p. (_, refl))
 
 -- so it is with states
 pub eat-no-else : (d : ℕ) (st : Stack) (a : Far) (k : Values (orElse d ∷ st) → Program) (u : Token) (p : ℕ) (ts : Ts)
-    → T (unlike Mark.else (classify u))
+    → T (unlike Fixed.else (classify u))
     → eat (state (orElse d ∷ st) a k) ((u at p) ∷ ts)
     ≡ eat (state (statements d ∷ st) a (λ (b, vs). k ((Tree.nothing, b), vs))) ((u at p) ∷ ts)
-eat-no-else d = eat-alike (orElse d) (statements d) (λ a. (Tree.nothing, a)) Mark.else (λ t p. (_, refl))
+eat-no-else d = eat-alike (orElse d) (statements d) (λ a. (Tree.nothing, a)) Fixed.else (λ t p. (_, refl))
 
 pub eat-no-also : (d n : ℕ) (st : Stack) (a : Far) (k : Values (orAlso d n ∷ st) → Program) (u : Token) (p : ℕ) (ts : Ts)
-    → T (unlike Mark.also (classify u))
+    → T (unlike Fixed.also (classify u))
     → eat (state (orAlso d n ∷ st) a k) ((u at p) ∷ ts)
     ≡ eat (state (statements d ∷ st) a (λ (b, vs). k ((Tree.lastArm, b), vs))) ((u at p) ∷ ts)
-eat-no-also d n = eat-alike (orAlso d n) (statements d) (λ b. (Tree.lastArm, b)) Mark.also (λ t p. (_, refl))
+eat-no-also d n = eat-alike (orAlso d n) (statements d) (λ b. (Tree.lastArm, b)) Fixed.also (λ t p. (_, refl))

@@ -12,10 +12,10 @@ use Rattle.text.proofs.Same.{sameToken, same-token}
 use Rattle.rule.specs.Tree as Tree
 use Rattle.rule.specs.Tree.{Number, Letter, Condition, Plain, Statement, Rest, Statements, Order, Program, _then_}
 use Rattle.rule.specs.Grammar as Grammar
-use Rattle.rule.specs.Grammar.{IsSought, IsAtom, loosest, middle, tightest, IsCondition, IsPlain, IsStatement, IsRest, IsArms, IsBlock, IsStatements, IsLetters, IsAlphabet, IsDecrement, IsSettings, IsProgram}
-use Rattle.rule.specs.Inside.Class.{Mark, spell, Class, mark, number, letter, other, tokenOf, classify, token-of-class}
+use Rattle.rule.specs.Grammar.{IsSymbolName, IsAtom, loosest, middle, tightest, IsCondition, IsPlain, IsStatement, IsRest, IsArms, IsBlock, IsStatements, IsLetters, IsAlphabet, IsDecrement, IsSettings, IsProgram}
+use Rattle.rule.specs.Inside.Class.{Fixed, spell, Class, mark, number, letter, other, tokenOf, classify, token-of-class}
 use Rattle.rule.specs.Inside.Machine as Machine
-use Rattle.rule.specs.Inside.Machine.{Symbol, Stack, Value, Values, Totals, Move, Choice, on, onNumber, onLetter, along, alongChoice, also, statementChoices, choices, take, pick, move}
+use Rattle.rule.specs.Inside.Machine.{Expected, Stack, Value, Values, Totals, Move, Choice, on, onNumber, onLetter, along, alongChoice, also, statementChoices, choices, take, pick, move}
 use Rattle.rule.proofs.Machine.Steps.{Ts, Is, is, Far, State, state, begin, follow, eat, _>>=_}
 
 data IsNumber : Ts → Number → Ts → Type 0 where
@@ -31,7 +31,7 @@ abbrev Closed : Ts → Statements → Ts → Type 0
 Closed ts b us = (q : ℕ) × IsStatements ts b ((s "}" at q) ∷ us)
 
 -- the tokens of a symbol, what they give, and the tokens after it. What may follow something is said by what becomes of that
-abbrev Means : (x : Symbol) → Ts → Value x → Ts → Type 0
+abbrev Means : (x : Expected) → Ts → Value x → Ts → Type 0
 Means (Machine.exact m) ts v us = Is (spell m) ts us
 Means Machine.program ts v us = (ms : Ts) × IsSettings ts (v .first) (v .alphabet) (v .stops) (v .truth) ms × IsBody ms (v .brace) (v .body) us
 Means Machine.alphabet ts l us = IsAlphabet ts l us
@@ -61,7 +61,7 @@ Means (Machine.tail n) ts v us =
     × ((q : ℕ) × ((t : Ts) (c : Condition) → IsCondition middle t c ms → IsCondition loosest t (v .1 c) ((s ")" at q) ∷ us)))
 Means Machine.readTest ts a us = (p : ℕ) → IsAtom ((w "read" at p) ∷ ts) p a us
 Means Machine.counterTest ts a us = (p : ℕ) → IsAtom ((w "c" at p) ∷ ts) p a us
-Means Machine.sought ts x us = IsSought ts x us
+Means Machine.symbolName ts x us = IsSymbolName ts x us
 
 data Over : Ts → Type 0 where
   over : Over []
@@ -216,7 +216,7 @@ counterIsNot-keeps isNumber p = Grammar.counterIsNot
 also-keeps : (t : Totals) (p d n : ℕ) → Keeps (Means (Machine.arms d n)) (w "also") p (also t p d n)
 also-keeps t p d n st ts vs (_, b, (us, (_, f, c), r)) = (us, (_, f p _ _ _ b, c), r)
 
-choices-keep : (t : Totals) (p : ℕ) (x : Symbol) → KeepsAll (Means x) p (choices t p x)
+choices-keep : (t : Totals) (p : ℕ) (x : Expected) → KeepsAll (Means x) p (choices t p x)
 choices-keep t p (Machine.exact m) = (λ st ts vs r. (ts, is, r)) & tt
 choices-keep t p Machine.program =
     (λ st ts vs (_, i, (_, j, (_, l, (_, k, (_, d, (us, b, r)))))). (us, (_, Grammar.alphabetFirst (alphabet-keeps i j l k) d, b), r))
@@ -296,7 +296,7 @@ choices-keep t p Machine.readTest =
     (λ st ts vs (us, x, r). (us, (λ q. Grammar.readIs x), r)) & (λ st ts vs (us, x, r). (us, (λ q. Grammar.readIsNot x), r)) & tt
 choices-keep t p Machine.counterTest =
     (λ st ts vs (us, n, r). (us, counterIs-keeps n, r)) & (λ st ts vs (us, n, r). (us, counterIsNot-keeps n, r)) & tt
-choices-keep t p Machine.sought =
+choices-keep t p Machine.symbolName =
     (λ b st ts vs r. (ts, Grammar.aLetter, r)) & (λ st ts vs r. (ts, Grammar.lend, r)) & (λ st ts vs r. (ts, Grammar.rend, r)) & tt
 
 -- the move that is picked for a token, if one is, keeps the meaning
@@ -305,7 +305,7 @@ KeepsIf M t p none = Unit {0}
 KeepsIf M t p (some m) = Keeps M t p m
 
 module _ {A : Type 0} (M : Ts → A → Ts → Type 0) (p : ℕ) where
-  mark-keeps : (m k : Mark) (r : Move A)
+  mark-keeps : (m k : Fixed) (r : Move A)
       → Keeps M (spell m) p r
       → (b : Bool)
       → sameToken (spell k) (spell m) ≡ b
@@ -335,7 +335,7 @@ module _ {A : Type 0} (M : Ts → A → Ts → Type 0) (p : ℕ) where
   pick-keeps [] h k = tt
   pick-keeps (r ∷ rs) h k = first-keeps (tokenOf k) (take r k) (pick rs k) (take-keeps r (h .0) k) (pick-keeps rs (h .1) k)
 
-move-means : (x : Symbol) (t : Totals) (u : Token) (p : ℕ) → KeepsIf (Means x) u p (move x t (u at p))
+move-means : (x : Expected) (t : Totals) (u : Token) (p : ℕ) → KeepsIf (Means x) u p (move x t (u at p))
 unfolding move
 move-means x t u p =
     subst

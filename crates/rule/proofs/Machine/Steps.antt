@@ -10,7 +10,7 @@ use Rattle.text.specs.Token.{Token}
 use Rattle.text.specs.Tokens.{Placed, _at_, Ending}
 use Rattle.rule.specs.Tree.{Program}
 use Rattle.rule.specs.Limits.{Fault, fault}
-use Rattle.rule.specs.Inside.Machine.{Symbol, Stack, Value, Values, Totals, start, program, Move, move, Outcome, refused, run}
+use Rattle.rule.specs.Inside.Machine.{Expected, Stack, Value, Values, Totals, start, program, Move, move, Outcome, refused, run}
 
 abbrev pub Ts : Type 0
 Ts = List Placed
@@ -52,7 +52,7 @@ _>>=_ none f = none
 _>>=_ (some a) f = f a
 
 -- the state behind a move
-abbrev pub follow : (x : Symbol) (st : Stack) → Far → (Values (x ∷ st) → Program) → ℕ → Move (Value x) → State
+abbrev pub follow : (x : Expected) (st : Stack) → Far → (Values (x ∷ st) → Program) → ℕ → Move (Value x) → State
 follow x st s k p m = state (m .push ++ st) (moved m p s) (λ vs. k (m .makes st vs))
 
 -- the state behind one token, if the token is expected
@@ -76,7 +76,7 @@ abbrev pub runs : State → Ts → Ending → Outcome
 runs x = run (x .stack) (x .far .totals)
 
 -- what a run does at a token, by the move there
-module _ (x : Symbol) (t : Totals) (u : Token) (p : ℕ) where
+module _ (x : Expected) (t : Totals) (u : Token) (p : ℕ) where
   -- no move: 4 here
   pub run-stops : move x t (u at p) ≡ none → (st : Stack) (us : Ts) (e : Ending) → run (x ∷ st) t ((u at p) ∷ us) e ≡ refused 4 p
   unfolding run
@@ -112,7 +112,7 @@ pub data View (x : State) (u : Token) (p : ℕ) : Option State → Type 0 where
       → ((us : Ts) (e : Ending) → runs x ((u at p) ∷ us) e ≡ refused n p)
       → View x u p (some y)
 
-view-limit : (x : Symbol) (st : Stack) (s : Far) (k : Values (x ∷ st) → Program) (u : Token) (p : ℕ) (m : Move (Value x)) (b : Bool)
+view-limit : (x : Expected) (st : Stack) (s : Far) (k : Values (x ∷ st) → Program) (u : Token) (p : ℕ) (m : Move (Value x)) (b : Bool)
     → m .breaks ≡ b
     → move x (s .totals) (u at p) ≡ some m
     → View (state (x ∷ st) s k) u p (some (follow x st s k p m))
@@ -120,7 +120,7 @@ unfolding noted
 view-limit x st s k u p m true e h = breaks {y = follow x st s k p m} (m .fault) (rw e refl) (run-breaks x (s .totals) u p m h e st)
 view-limit x st s k u p m false e h = passes {y = follow x st s k p m} (rw e refl) (run-passes x (s .totals) u p m h e st)
 
-view-move : (x : Symbol) (st : Stack) (s : Far) (k : Values (x ∷ st) → Program) (u : Token) (p : ℕ) (o : Option (Move (Value x)))
+view-move : (x : Expected) (st : Stack) (s : Far) (k : Values (x ∷ st) → Program) (u : Token) (p : ℕ) (o : Option (Move (Value x)))
     → move x (s .totals) (u at p) ≡ o
     → View (state (x ∷ st) s k) u p (o >>= λ m. some (follow x st s k p m))
 view-move x st s k u p none h = stops (run-stops x (s .totals) u p h st)

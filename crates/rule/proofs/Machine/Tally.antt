@@ -8,8 +8,8 @@ use mathlib.Core.List.{List, [], _∷_, _++_, append-nil, append-assoc}
 use lib.ListN.{length}
 use lib.Dec.{leb}
 use Rattle.rule.specs.Tree as Tree
-use Rattle.rule.specs.Tree.{Number, Letter, Sought, Atom, Condition, Plain, Statement, Rest, Statements, Arms, Order, Program, done, _then_, letterBytes}
-use Rattle.rule.specs.Limits.{Fault, faultIf, tooDeep, isIn, letterFaults, numberFaults, soughtFaults, atomFaults, conditionFaults, plainFaults, statementFaults, restFaults, statementsFaults, armsFaults, truthFaults, inOrder, settingsFaults, faults}
+use Rattle.rule.specs.Tree.{Number, Letter, SymbolName, Atom, Condition, Plain, Statement, Rest, Statements, Arms, Order, Program, done, _then_, letterBytes}
+use Rattle.rule.specs.Limits.{Fault, faultIf, tooDeep, isIn, letterFaults, numberFaults, symbolNameFaults, atomFaults, conditionFaults, plainFaults, statementFaults, restFaults, statementsFaults, armsFaults, truthFaults, inOrder, settingsFaults, faults}
 use Rattle.rule.specs.Counts.{
   conditionStates,
   statementStates,
@@ -78,8 +78,8 @@ number-is : (greatest : ℕ) (n : Number) (s : Far) → numberFar greatest n s �
 unfolding numberFaults
 number-is greatest n s = notes-is (outside greatest (n .digits)) 7 (n .place) s
 
-sought-is : (x : Sought) (s : Far) → soughtFar x s ≡ plus s 0 0 (soughtFaults (s .totals .alphabet) x)
-unfolding soughtFar soughtFaults
+sought-is : (x : SymbolName) (s : Far) → soughtFar x s ≡ plus s 0 0 (symbolNameFaults (s .totals .alphabet) x)
+unfolding soughtFar symbolNameFaults
 sought-is (Tree.letter l) s = notes-is (not (isIn (l .byte) (s .totals .alphabet))) 6 (l .place) s
 sought-is Tree.lend s = nothing-is s
 sought-is Tree.rend s = nothing-is s

@@ -8,9 +8,9 @@ use Rattle.text.specs.Token.{Token, w, s}
 use Rattle.text.proofs.Runs.{T-true}
 use Rattle.text.proofs.Same.{sameToken}
 use Rattle.rule.specs.Tree.{Program}
-use Rattle.rule.specs.Inside.Class.{Mark, spell, classify, class-of-mark, same-self}
+use Rattle.rule.specs.Inside.Class.{Fixed, spell, classify, class-of-mark, same-self}
 use Rattle.rule.specs.Inside.Machine as Machine
-use Rattle.rule.specs.Inside.Machine.{Symbol, Stack, Values, Move, on, pick}
+use Rattle.rule.specs.Inside.Machine.{Expected, Stack, Values, Move, on, pick}
 use Rattle.rule.proofs.Machine.Steps.{Far, state, eat}
 use Rattle.text.proofs.Written.{laid}
 use Rattle.rule.proofs.Machine.Sound.{Ended}
@@ -23,7 +23,7 @@ abbrev pub letterToken : Token
 letterToken = Token.letter 97
 
 -- a few tokens that a symbol takes, and nothing after them
-abbrev pub short : Symbol → List Token
+abbrev pub short : Expected → List Token
 short (Machine.exact m) = spell m ∷ []
 short Machine.program =
     w "alphabet"
@@ -63,7 +63,7 @@ short (Machine.operand n) = w "c" ∷ s "==" ∷ zeroToken ∷ []
 short (Machine.tail n) = s ")" ∷ []
 short Machine.readTest = s "==" ∷ w "lend" ∷ []
 short Machine.counterTest = s "==" ∷ zeroToken ∷ []
-short Machine.sought = w "lend" ∷ []
+short Machine.symbolName = w "lend" ∷ []
 
 -- and those that a whole stack takes
 abbrev pub shortAll : Stack → List Token
@@ -71,7 +71,7 @@ shortAll [] = []
 shortAll (x ∷ st) = short x ++ shortAll st
 
 -- a mark that is expected is taken
-exact-picked : {A : Type 0} (m : Mark) (r : Move A) → pick (on m r ∷ []) (classify (spell m)) ≡ some r
+exact-picked : {A : Type 0} (m : Fixed) (r : Move A) → pick (on m r ∷ []) (classify (spell m)) ≡ some r
 exact-picked m r = rw (class-of-mark m) (rw (T-true (sameToken (spell m) (spell m)) (same-self (spell m)), pick))
 
 -- the tokens complete what is expected
@@ -100,4 +100,4 @@ completes (Machine.operand n ∷ st) a k p = completes st _ _ _
 completes (Machine.tail n ∷ st) a k p = completes st _ _ _
 completes (Machine.readTest ∷ st) a k p = completes st _ _ _
 completes (Machine.counterTest ∷ st) a k p = completes st _ _ _
-completes (Machine.sought ∷ st) a k p = completes st _ _ _
+completes (Machine.symbolName ∷ st) a k p = completes st _ _ _

@@ -11,13 +11,13 @@ use Rattle.text.specs.Token.{Token, word, sign, w, s}
 use Rattle.text.proofs.Same.{sameToken, same-token}
 
 -- the reserved words, and then the signs
-pub data Mark : Type 0 where
-  alphabet decrOnZero isTrue isFalse twoc string : Mark
-  move goto lend rend c accept reject if else while choose branch also read : Mark
-  equals same differs not and or plusPlus minusMinus plusEquals minusEquals minus : Mark
-  opens closes begins ends openList closeList comma semicolon : Mark
+pub data Fixed : Type 0 where
+  alphabet decrOnZero isTrue isFalse twoc string : Fixed
+  move goto lend rend c accept reject if else while choose branch also read : Fixed
+  equals same differs not and or plusPlus minusMinus plusEquals minusEquals minus : Fixed
+  opens closes begins ends openList closeList comma semicolon : Fixed
 
-abbrev pub spell : Mark → Token
+abbrev pub spell : Fixed → Token
 spell alphabet = w "alphabet"
 spell decrOnZero = w "decr_on_zero"
 spell isTrue = w "true"
@@ -58,7 +58,7 @@ spell closeList = s "]"
 spell comma = s ","
 spell semicolon = s ";"
 
-abbrev words : List Mark
+abbrev words : List Fixed
 words =
     alphabet
     ∷ decrOnZero
@@ -82,7 +82,7 @@ words =
     ∷ read
     ∷ []
 
-abbrev signs : List Mark
+abbrev signs : List Fixed
 signs =
     equals
     ∷ same
@@ -106,7 +106,7 @@ signs =
     ∷ []
 
 pub data Class : Type 0 where
-  mark : Mark → Class
+  mark : Fixed → Class
   number : List ℕ → Class
   letter : ℕ → Class
   other : Token → Class
@@ -118,7 +118,7 @@ tokenOf (letter b) = Token.letter b
 tokenOf (other t) = t
 
 -- the mark among these that is written so
-abbrev pub find : Token → List Mark → Class
+abbrev pub find : Token → List Fixed → Class
 find t [] = other t
 find t (m ∷ ms) = elim (sameToken t (spell m)) [ true ↦ mark m | false ↦ find t ms ]
 
@@ -128,7 +128,7 @@ classify (Token.number n) = number n
 classify (Token.letter b) = letter b
 classify (sign a) = find (sign a) signs
 
-find-token : (t : Token) (ms : List Mark) → tokenOf (find t ms) ≡ t
+find-token : (t : Token) (ms : List Fixed) → tokenOf (find t ms) ≡ t
 find-token t [] = refl
 find-token t (m ∷ ms) = go (sameToken t (spell m)) refl (find-token t ms)
   where
@@ -144,7 +144,7 @@ token-of-class (Token.letter b) = refl
 token-of-class (sign a) = find-token (sign a) signs
 
 -- a mark, as it is written, is of its own class
-pub class-of-mark : (m : Mark) → classify (spell m) ≡ mark m
+pub class-of-mark : (m : Fixed) → classify (spell m) ≡ mark m
 class-of-mark alphabet = refl
 class-of-mark decrOnZero = refl
 class-of-mark isTrue = refl

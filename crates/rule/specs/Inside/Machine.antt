@@ -10,54 +10,54 @@ use Rattle.text.specs.Tokens.{Placed, _at_, Ending, ends, broken}
 use Rattle.text.proofs.Scan.{scan}
 use Rattle.text.proofs.Same.{sameToken}
 use Rattle.rule.specs.Tree as Tree
-use Rattle.rule.specs.Tree.{Number, Letter, Sought, Atom, Condition, Plain, Statement, Rest, Statements, Arms, Program, done, _then_}
+use Rattle.rule.specs.Tree.{Number, Letter, SymbolName, Atom, Condition, Plain, Statement, Rest, Statements, Arms, Program, done, _then_}
 use Rattle.rule.specs.Limits.{isIn, inForm, valueFrom}
-use Rattle.rule.specs.Inside.Class.{Mark, spell, Class, mark, classify}
+use Rattle.rule.specs.Inside.Class.{Fixed, spell, Class, mark, classify}
 
 -- what is expected; each symbol takes at least one token
-pub data Symbol : Type 0 where
+pub data Expected : Type 0 where
   -- this token
-  exact : Mark → Symbol
-  program : Symbol
+  exact : Fixed → Expected
+  program : Expected
   -- `alphabet = [ letters ] ;` and `decr_on_zero = true ;`
-  alphabet : Symbol
-  decrement : Symbol
+  alphabet : Expected
+  decrement : Expected
   -- letters up to `]`; what may follow a letter; `true ;` or `false ;`
-  letters : Symbol
-  moreLetters : Symbol
-  truth : Symbol
+  letters : Expected
+  moreLetters : Expected
+  truth : Expected
   -- `twoc ( string )` and a block
-  body : Symbol
+  body : Expected
   -- a block, so many blocks being open around it
-  block : ℕ → Symbol
+  block : ℕ → Expected
   -- statements up to `}`, so many blocks being open
-  statements : ℕ → Symbol
+  statements : ℕ → Expected
   -- what may follow a block of an `if`: an else, or not, and then statements
-  orElse : ℕ → Symbol
+  orElse : ℕ → Expected
   -- one `also` at least behind so many arms, and then statements; an `also`, or not, and then statements
-  arms : ℕ → ℕ → Symbol
-  orAlso : ℕ → ℕ → Symbol
+  arms : ℕ → ℕ → Expected
+  orAlso : ℕ → ℕ → Expected
   -- after `while`; after `move (`; after `goto (`; after `c`
-  loop : ℕ → Symbol
-  distance : Symbol
-  end : Symbol
-  change : Symbol
+  loop : ℕ → Expected
+  distance : Expected
+  end : Expected
+  change : Expected
   -- a number up to this
-  number : ℕ → Symbol
+  number : ℕ → Expected
   -- one operand of a condition, so many `(` and `!` being open; what may follow it, up to `)`
-  operand : ℕ → Symbol
-  tail : ℕ → Symbol
+  operand : ℕ → Expected
+  tail : ℕ → Expected
   -- after `read`, and after `c`, in a condition; what `read` is compared with
-  readTest : Symbol
-  counterTest : Symbol
-  sought : Symbol
+  readTest : Expected
+  counterTest : Expected
+  symbolName : Expected
 
 abbrev pub Stack : Type 0
-Stack = List Symbol
+Stack = List Expected
 
 -- what a symbol's tokens give. What may follow something says what becomes of that: behind an `also` and its block, the arms;
 -- behind an operand, the conjunction and then the whole condition. Behind `while` its place is still to come
-abbrev pub Value : Symbol → Type 0
+abbrev pub Value : Expected → Type 0
 Value (exact m) = Unit {0}
 Value program = Program
 Value alphabet = List Letter
@@ -80,7 +80,7 @@ Value (operand n) = Condition
 Value (tail n) = (Condition → Condition) × (Condition → Condition)
 Value readTest = Atom
 Value counterTest = Atom
-Value sought = Sought
+Value symbolName = SymbolName
 
 abbrev pub Values : Stack → Type 0
 Values [] = Unit {0}
@@ -116,7 +116,7 @@ free t push makes = record { breaks = false; fault = 0; push = push; totals = t;
 
 -- what a token may be, and the move that it makes
 pub data Choice (A : Type 0) : Type 0 where
-  on : Mark → Move A → Choice A
+  on : Fixed → Move A → Choice A
   onNumber : (List ℕ → Move A) → Choice A
   onLetter : (ℕ → Move A) → Choice A
 
@@ -169,62 +169,62 @@ module _ (t : Totals) (p : ℕ) where
 
   abbrev pub statementChoices : ℕ → List (Choice Statements)
   statementChoices d =
-      on Mark.ends (free t [] (λ st vs. (done, vs)))
+      on Fixed.ends (free t [] (λ st vs. (done, vs)))
       ∷ on
-      Mark.move
+      Fixed.move
       (free
       (counted 1 1 t)
-      (exact Mark.opens ∷ distance ∷ statements d ∷ [])
+      (exact Fixed.opens ∷ distance ∷ statements d ∷ [])
       (λ st (_, (e, (b, vs))). (Tree.plain p e then b, vs)))
       ∷ on
-      Mark.goto
-      (free (counted 1 1 t) (exact Mark.opens ∷ end ∷ statements d ∷ []) (λ st (_, (e, (b, vs))). (Tree.plain p e then b, vs)))
-      ∷ on Mark.c (free (counted 1 1 t) (change ∷ statements d ∷ []) (λ st (e, (b, vs)). (Tree.plain p e then b, vs)))
+      Fixed.goto
+      (free (counted 1 1 t) (exact Fixed.opens ∷ end ∷ statements d ∷ []) (λ st (_, (e, (b, vs))). (Tree.plain p e then b, vs)))
+      ∷ on Fixed.c (free (counted 1 1 t) (change ∷ statements d ∷ []) (λ st (e, (b, vs)). (Tree.plain p e then b, vs)))
       ∷ on
-      Mark.accept
-      (free (counted 1 0 t) (exact Mark.semicolon ∷ statements d ∷ []) (λ st (_, (b, vs)). (Tree.accept p then b, vs)))
+      Fixed.accept
+      (free (counted 1 0 t) (exact Fixed.semicolon ∷ statements d ∷ []) (λ st (_, (b, vs)). (Tree.accept p then b, vs)))
       ∷ on
-      Mark.reject
-      (free (counted 1 0 t) (exact Mark.semicolon ∷ statements d ∷ []) (λ st (_, (b, vs)). (Tree.reject p then b, vs)))
+      Fixed.reject
+      (free (counted 1 0 t) (exact Fixed.semicolon ∷ statements d ∷ []) (λ st (_, (b, vs)). (Tree.reject p then b, vs)))
       ∷ on
-      Mark.if
+      Fixed.if
       (free
       (counted 3 2 t)
-      (exact Mark.opens ∷ operand 0 ∷ tail 0 ∷ block d ∷ orElse d ∷ [])
+      (exact Fixed.opens ∷ operand 0 ∷ tail 0 ∷ block d ∷ orElse d ∷ [])
       (λ st (_, (c, ((f, g), ((o, b), ((e, a), vs))))). (Tree.if p (g (f c)) o b e then a, vs)))
-      ∷ on Mark.while (free t (loop d ∷ statements d ∷ []) (λ st (a, (b, vs)). (a p then b, vs)))
+      ∷ on Fixed.while (free t (loop d ∷ statements d ∷ []) (λ st (a, (b, vs)). (a p then b, vs)))
       ∷ on
-      Mark.branch
+      Fixed.branch
       (free (counted 2 2 t) (block d ∷ arms d 1 ∷ []) (λ st ((o, b), ((a, c), vs)). (Tree.branch p o b a then c, vs)))
       ∷ []
 
-  abbrev pub choices : (x : Symbol) → List (Choice (Value x))
+  abbrev pub choices : (x : Expected) → List (Choice (Value x))
   choices (exact m) = on m (free t [] (λ st vs. (tt, vs))) ∷ []
   choices program =
       on
-      Mark.alphabet
+      Fixed.alphabet
       (free
       t
-      (exact Mark.equals ∷ exact Mark.openList ∷ letters ∷ exact Mark.semicolon ∷ decrement ∷ body ∷ [])
+      (exact Fixed.equals ∷ exact Fixed.openList ∷ letters ∷ exact Fixed.semicolon ∷ decrement ∷ body ∷ [])
       (λ st (_, (_, (l, (_, ((d, r), ((o, b), vs)))))).
       (record { first = Tree.alphabetFirst; alphabet = l; stops = d; truth = r; brace = o; body = b }, vs)))
       ∷ on
-      Mark.decrOnZero
+      Fixed.decrOnZero
       (free
       t
-      (exact Mark.equals ∷ truth ∷ alphabet ∷ body ∷ [])
+      (exact Fixed.equals ∷ truth ∷ alphabet ∷ body ∷ [])
       (λ st (_, ((d, r), (l, ((o, b), vs)))).
       (record { first = Tree.decrementFirst; alphabet = l; stops = d; truth = r; brace = o; body = b }, vs)))
       ∷ []
   choices alphabet =
       on
-      Mark.alphabet
+      Fixed.alphabet
       (free
       t
-      (exact Mark.equals ∷ exact Mark.openList ∷ letters ∷ exact Mark.semicolon ∷ [])
+      (exact Fixed.equals ∷ exact Fixed.openList ∷ letters ∷ exact Fixed.semicolon ∷ [])
       (λ st (_, (_, (l, (_, vs)))). (l, vs)))
       ∷ []
-  choices decrement = on Mark.decrOnZero (free t (exact Mark.equals ∷ truth ∷ []) (λ st (_, (d, vs)). (d, vs))) ∷ []
+  choices decrement = on Fixed.decrOnZero (free t (exact Fixed.equals ∷ truth ∷ []) (λ st (_, (d, vs)). (d, vs))) ∷ []
   choices letters =
       onLetter
       (λ b.
@@ -237,93 +237,93 @@ module _ (t : Totals) (p : ℕ) where
       })
       ∷ []
   choices moreLetters =
-      on Mark.closeList (free t [] (λ st vs. ([], vs)))
-      ∷ on Mark.comma (free t (letters ∷ []) (λ st vs. vs))
+      on Fixed.closeList (free t [] (λ st vs. ([], vs)))
+      ∷ on Fixed.comma (free t (letters ∷ []) (λ st vs. vs))
       ∷ []
   choices truth =
-      on Mark.isTrue (free t (exact Mark.semicolon ∷ []) (λ st (_, vs). ((true, p), vs)))
-      ∷ on Mark.isFalse (free t (exact Mark.semicolon ∷ []) (λ st (_, vs). ((false, p), vs)))
+      on Fixed.isTrue (free t (exact Fixed.semicolon ∷ []) (λ st (_, vs). ((true, p), vs)))
+      ∷ on Fixed.isFalse (free t (exact Fixed.semicolon ∷ []) (λ st (_, vs). ((false, p), vs)))
       ∷ []
   choices body =
       on
-      Mark.twoc
+      Fixed.twoc
       (free
       t
-      (exact Mark.opens ∷ exact Mark.string ∷ exact Mark.closes ∷ block 0 ∷ [])
+      (exact Fixed.opens ∷ exact Fixed.string ∷ exact Fixed.closes ∷ block 0 ∷ [])
       (λ st (_, (_, (_, (b, vs)))). (b, vs)))
       ∷ []
-  choices (block d) = on Mark.begins (deeper d (statements (suc d) ∷ []) (λ st (b, vs). ((p, b), vs))) ∷ []
+  choices (block d) = on Fixed.begins (deeper d (statements (suc d) ∷ []) (λ st (b, vs). ((p, b), vs))) ∷ []
   choices (statements d) = statementChoices d
   choices (orElse d) =
       on
-      Mark.else
+      Fixed.else
       (free t (block d ∷ statements d ∷ []) (λ st ((o, b), (a, vs)). ((Tree.else o b, a), vs)))
       ∷ map (alongChoice (λ a. (Tree.nothing, a))) (statementChoices d)
-  choices (arms d n) = on Mark.also (also d n) ∷ []
+  choices (arms d n) = on Fixed.also (also d n) ∷ []
   choices (orAlso d n) =
-      on Mark.also (along (λ (a, b). ((λ q o c. Tree.moreArms q o c a), b)) (also d n))
+      on Fixed.also (along (λ (a, b). ((λ q o c. Tree.moreArms q o c a), b)) (also d n))
       ∷ map (alongChoice (λ b. (Tree.lastArm, b))) (statementChoices d)
   choices (loop d) =
       on
-      Mark.opens
+      Fixed.opens
       (free
       (counted 2 1 t)
       (operand 0 ∷ tail 0 ∷ block d ∷ [])
       (λ st (c, ((f, g), ((o, b), vs))). ((λ q. Tree.while q (g (f c)) o b), vs)))
-      ∷ on Mark.choose (free (counted 2 3 t) (block d ∷ []) (λ st ((o, b), vs). ((λ q. Tree.choose q o b), vs)))
+      ∷ on Fixed.choose (free (counted 2 3 t) (block d ∷ []) (λ st ((o, b), vs). ((λ q. Tree.choose q o b), vs)))
       ∷ []
   choices distance =
-      aNumber 63 (exact Mark.closes ∷ exact Mark.semicolon ∷ []) (λ n st (_, (_, vs)). (Tree.moveBy n, vs))
+      aNumber 63 (exact Fixed.closes ∷ exact Fixed.semicolon ∷ []) (λ n st (_, (_, vs)). (Tree.moveBy n, vs))
       ∷ on
-      Mark.minus
+      Fixed.minus
       (free
       t
-      (number 63 ∷ exact Mark.closes ∷ exact Mark.semicolon ∷ [])
+      (number 63 ∷ exact Fixed.closes ∷ exact Fixed.semicolon ∷ [])
       (λ st (n, (_, (_, vs))). (Tree.moveBack n, vs)))
       ∷ []
   choices end =
-      on Mark.lend (free t (exact Mark.closes ∷ exact Mark.semicolon ∷ []) (λ st (_, (_, vs)). (Tree.gotoLend, vs)))
-      ∷ on Mark.rend (free t (exact Mark.closes ∷ exact Mark.semicolon ∷ []) (λ st (_, (_, vs)). (Tree.gotoRend, vs)))
+      on Fixed.lend (free t (exact Fixed.closes ∷ exact Fixed.semicolon ∷ []) (λ st (_, (_, vs)). (Tree.gotoLend, vs)))
+      ∷ on Fixed.rend (free t (exact Fixed.closes ∷ exact Fixed.semicolon ∷ []) (λ st (_, (_, vs)). (Tree.gotoRend, vs)))
       ∷ []
   choices change =
-      on Mark.plusPlus (free t (exact Mark.semicolon ∷ []) (λ st (_, vs). (Tree.increment, vs)))
-      ∷ on Mark.minusMinus (free t (exact Mark.semicolon ∷ []) (λ st (_, vs). (Tree.decrement, vs)))
-      ∷ on Mark.plusEquals (free t (number 31 ∷ exact Mark.semicolon ∷ []) (λ st (n, (_, vs)). (Tree.add n, vs)))
-      ∷ on Mark.minusEquals (free t (number 31 ∷ exact Mark.semicolon ∷ []) (λ st (n, (_, vs)). (Tree.subtract n, vs)))
+      on Fixed.plusPlus (free t (exact Fixed.semicolon ∷ []) (λ st (_, vs). (Tree.increment, vs)))
+      ∷ on Fixed.minusMinus (free t (exact Fixed.semicolon ∷ []) (λ st (_, vs). (Tree.decrement, vs)))
+      ∷ on Fixed.plusEquals (free t (number 31 ∷ exact Fixed.semicolon ∷ []) (λ st (n, (_, vs)). (Tree.add n, vs)))
+      ∷ on Fixed.minusEquals (free t (number 31 ∷ exact Fixed.semicolon ∷ []) (λ st (n, (_, vs)). (Tree.subtract n, vs)))
       ∷ []
   choices (number greatest) = aNumber greatest [] (λ n st vs. (n, vs)) ∷ []
   choices (operand n) =
-      on Mark.read (free (counted 0 (length (t .alphabet) + 2) t) (readTest ∷ []) (λ st (a, vs). (Tree.atom p a, vs)))
-      ∷ on Mark.c (free (counted 0 2 t) (counterTest ∷ []) (λ st (a, vs). (Tree.atom p a, vs)))
+      on Fixed.read (free (counted 0 (length (t .alphabet) + 2) t) (readTest ∷ []) (λ st (a, vs). (Tree.atom p a, vs)))
+      ∷ on Fixed.c (free (counted 0 2 t) (counterTest ∷ []) (λ st (a, vs). (Tree.atom p a, vs)))
       ∷ on
-      Mark.opens
+      Fixed.opens
       (deeper n (operand (suc n) ∷ tail (suc n) ∷ []) (λ st (c, ((f, g), vs)). (Tree.parens p (g (f c)), vs)))
-      ∷ on Mark.not (deeper n (operand (suc n) ∷ []) (λ st (c, vs). (Tree.negation p c, vs)))
+      ∷ on Fixed.not (deeper n (operand (suc n) ∷ []) (λ st (c, vs). (Tree.negation p c, vs)))
       ∷ []
   choices (tail n) =
-      on Mark.closes (free t [] (λ st vs. (((λ c. c), (λ c. c)), vs)))
+      on Fixed.closes (free t [] (λ st vs. (((λ c. c), (λ c. c)), vs)))
       ∷ on
-      Mark.and
+      Fixed.and
       (free
       (counted 1 0 t)
       (operand n ∷ tail n ∷ [])
       (λ st (d, ((f, g), vs)). (((λ c. Tree.both c (f d)), g), vs)))
       ∷ on
-      Mark.or
+      Fixed.or
       (free
       (counted 1 0 t)
       (operand n ∷ tail n ∷ [])
       (λ st (d, ((f, g), vs)). (((λ c. c), (λ c. Tree.either c (g (f d)))), vs)))
       ∷ []
   choices readTest =
-      on Mark.same (free t (sought ∷ []) (λ st (x, vs). (Tree.readIs x, vs)))
-      ∷ on Mark.differs (free t (sought ∷ []) (λ st (x, vs). (Tree.readIsNot x, vs)))
+      on Fixed.same (free t (symbolName ∷ []) (λ st (x, vs). (Tree.readIs x, vs)))
+      ∷ on Fixed.differs (free t (symbolName ∷ []) (λ st (x, vs). (Tree.readIsNot x, vs)))
       ∷ []
   choices counterTest =
-      on Mark.same (free t (number 0 ∷ []) (λ st (n, vs). (Tree.counterIs n, vs)))
-      ∷ on Mark.differs (free t (number 0 ∷ []) (λ st (n, vs). (Tree.counterIsNot n, vs)))
+      on Fixed.same (free t (number 0 ∷ []) (λ st (n, vs). (Tree.counterIs n, vs)))
+      ∷ on Fixed.differs (free t (number 0 ∷ []) (λ st (n, vs). (Tree.counterIsNot n, vs)))
       ∷ []
-  choices sought =
+  choices symbolName =
       onLetter
       (λ b.
       record {
@@ -333,8 +333,8 @@ module _ (t : Totals) (p : ℕ) where
         totals = t;
         makes = λ st vs. (Tree.letter (record { byte = b; place = p }), vs);
       })
-      ∷ on Mark.lend (free t [] (λ st vs. (Tree.lend, vs)))
-      ∷ on Mark.rend (free t [] (λ st vs. (Tree.rend, vs)))
+      ∷ on Fixed.lend (free t [] (λ st vs. (Tree.lend, vs)))
+      ∷ on Fixed.rend (free t [] (λ st vs. (Tree.rend, vs)))
       ∷ []
 
 -- the move of the first choice that a token of this class is
@@ -356,7 +356,7 @@ abbrev pub pick : {A : Type 0} → List (Choice A) → Class → Option (Move A)
 pick [] k = none
 pick (r ∷ rs) k = elim (take r k) [ some m ↦ some m | none ↦ pick rs k ]
 
-unfoldable pub move : (x : Symbol) → Totals → Placed → Option (Move (Value x))
+unfoldable pub move : (x : Expected) → Totals → Placed → Option (Move (Value x))
 move x t (u at p) = pick (choices t p x) (classify u)
 
 -- what comes of the tokens: all taken, with so many states and rows, or a refusal's number and place

@@ -3,14 +3,14 @@ use Prim.Native.Nat.{_-_}
 use native.Mathlib.Omega.{arith}
 use lib.ListN.{length}
 use borrow.Author.Needs.{needs}
-use Rattle.text.specs.First.{First}
+use Rattle.text.specs.First.{FirstToken}
 use Rattle.text.specs.declared.Token.{Token}
 use Rattle.tokeniser.proofs.Comes.{end-first, skips-first, step-blank, step-token}
 use Rattle.tokeniser.proofs.token_at.Statement.{statement}
 use Rattle.tokeniser.proofs.token_at.Tie as tie
 
 abbrev Inv-loop : tie.InvT-loop
-Inv-loop text from at₀ at = (r : Token) → First text at r → First text from r
+Inv-loop text from at₀ at = (r : Token) → FirstToken text at r → FirstToken text from r
 
 abbrev μ-loop : tie.MeasureT-loop
 μ-loop text from at₀ at = length text - at

@@ -8,7 +8,7 @@ use lib.Dec.{eqb}
 use Rattle.bits.specs.Byte.{isDigit, isAlphabetic}
 use Rattle.text.specs.Token.{quote, signs}
 use Rattle.text.specs.Tokens.{isWhite, slash, lineFeed, Blank}
-use Rattle.text.specs.First.{written, First}
+use Rattle.text.specs.First.{written, FirstToken}
 use Rattle.tokeniser.specs.declared.signs.Found.{Found}
 use Rattle.tokeniser.specs.declared.signs.Found.the-variants as Found
 use Rattle.tokeniser.specs.declared.steps.Step.{Step}
@@ -58,6 +58,6 @@ pub record Skips (text : List ℕ) (place next : ℕ) : Type 0 where
   pub blank : Blank (drop place text) (next - place) (drop next text)
 
 -- what stands at this place of the text
-abbrev pub Steps : List ℕ → ℕ → Step → Type 0
-Steps text place (Step.Blank next) = Skips text place next
-Steps text place (Step.Token r) = First text place r
+abbrev pub StepRight : List ℕ → ℕ → Step → Type 0
+StepRight text place (Step.Blank next) = Skips text place next
+StepRight text place (Step.Token r) = FirstToken text place r

@@ -5,7 +5,7 @@ use mathlib.Core.Bool.{Bool}
 use mathlib.Core.List.{[], _∷_}
 use borrow.Author.Needs.{needs}
 use Rattle.text.specs.declared.Sign.{Sign}
-use Rattle.compiler.specs.Inside.Operators.{Mark, lookAt, markOf}
+use Rattle.compiler.specs.Inside.Operators.{Bracketing, lookAt, markOf}
 use Rattle.compiler.specs.declared.ahead.Looked.{Looked}
 use Rattle.compiler.proofs.Tags.{signTags}
 use Rattle.compiler.proofs.Operators.{
@@ -24,8 +24,8 @@ use Rattle.compiler.proofs.ahead.look.Statement.{statement}
 use Rattle.compiler.proofs.ahead.look.Tie as tie
 
 -- what is found at a sign is found at its mark
-at-mark : {r : Looked} (x : Sign) (m : Mark) (depth : ℕ) (sought : Bool) → markOf x ≡ m → r ≡ lookAt m depth sought → r ≡ lookAt (markOf x) depth sought
-at-mark x m depth sought e f = f ∙ ap (λ (n : Mark). lookAt n depth sought) (sym e)
+at-mark : {r : Looked} (x : Sign) (m : Bracketing) (depth : ℕ) (sought : Bool) → markOf x ≡ m → r ≡ lookAt m depth sought → r ≡ lookAt (markOf x) depth sought
+at-mark x m depth sought e f = f ∙ ap (λ (n : Bracketing). lookAt n depth sought) (sym e)
 
 enum-told : tie.Need-enum-told
 enum-told c = search needs

@@ -8,7 +8,7 @@ use lib.ListN.{length}
 use borrow.Author.Needs.{needs}
 use Rattle.text.specs.declared.Sign.the-variants as Sign
 use Rattle.compiler.specs.Inside.Operators.{Ahead}
-use Rattle.compiler.specs.Inside.Emission.{takes, Goes}
+use Rattle.compiler.specs.Inside.Emission.{takes, Leads}
 use Rattle.compiler.proofs.Emission.{ready, emitted-past, past-onward}
 use Rattle.compiler.proofs.Walking.{
   rank,
@@ -97,8 +97,8 @@ chain-way-requires t c κs = walk-few (c .before .before .before .before .before
 looked : (t : ℕ) (c : chain-lts.After-way (chain-calls t) (chain-at t) chain.Post) → Ahead (c .before .before .before .before .before .before .args .text .now) (c .before .before .before .before .before .before .args .place .at) (c .before .before .before .before .before .before .args .or) true
 looked t c = subst (Ahead _ _ _) (c .before .before .if1 .taken) (c .before .before .before .operator-ahead .ensures)
 
-goes : (t : ℕ) (c : chain-lts.After-way (chain-calls t) (chain-at t) chain.Post) → Goes (takes (c .before .before .before .before .before .before .args .or) (c .before .before .before .before .before .before .args .sign)) (c .before .before .before .before .before .before .args .to) (c .before .before .before .before .before .before .args .place) (c .way .result)
-goes t c = subst (λ (b : Bool). Goes b (c .before .before .before .before .before .before .args .to) (c .before .before .before .before .before .before .args .place) (c .way .result)) (c .before .takes-state .ensures) (c .way .ensures)
+goes : (t : ℕ) (c : chain-lts.After-way (chain-calls t) (chain-at t) chain.Post) → Leads (takes (c .before .before .before .before .before .before .args .or) (c .before .before .before .before .before .before .args .sign)) (c .before .before .before .before .before .before .args .to) (c .before .before .before .before .before .before .args .place) (c .way .result)
+goes t c = subst (λ (b : Bool). Leads b (c .before .before .before .before .before .before .args .to) (c .before .before .before .before .before .before .args .place) (c .way .result)) (c .before .takes-state .ensures) (c .way .ensures)
 
 chain-side-requires : (t : ℕ) → chain-lts.Need-side-requires (chain-calls t) (chain-at t) chain.Post
 chain-side-requires t c κs = (

@@ -6,7 +6,7 @@ use mathlib.Core.List.{[], _∷_}
 use lib.ListN.{length}
 use borrow.Author.Needs.{needs}
 use Rattle.rule.specs.Inside.Machine.{operand, tail}
-use Rattle.reader.specs.Inside.Answers.{alphabetOf, totals, spot, Comes, Ready}
+use Rattle.reader.specs.Inside.Answers.{alphabetOf, totals, spot, ComesTo, Ready}
 use Rattle.reader.proofs.Front.{front-sign, told-sign}
 use Rattle.reader.proofs.Moves.{stand, went, went-ready, went-forth, comes-then, onward, done, step, then, stop, break, ready-on, ready-plus}
 use Rattle.reader.proofs.Missed.{refuses, refuses-sign}
@@ -67,7 +67,7 @@ condition-at-claims t = (
 
 abbrev condition-at-Inv-loop : condition-at-lts.InvT-loop
 condition-at-Inv-loop text at letters left from₀ so-far₀ from so-far =
-    Comes
+    ComesTo
     text
     (spot from₀ (operand (16 - left) ∷ tail (16 - left) ∷ []) (totals (alphabetOf letters) so-far₀))
     (spot from (operand (16 - left) ∷ tail (16 - left) ∷ []) (totals (alphabetOf letters) so-far))

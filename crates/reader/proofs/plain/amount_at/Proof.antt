@@ -1,7 +1,7 @@
 -- `reader::plain::amount_at` meets its contract.
 use mathlib.Core.Path.{refl}
 use mathlib.Core.List.{[]}
-use Rattle.rule.specs.Inside.Class.{Mark}
+use Rattle.rule.specs.Inside.Class.{Fixed}
 use Rattle.reader.proofs.Moves.{went-ready, then, stop}
 use borrow.Author.Needs.{needs}
 use Rattle.reader.proofs.plain.amount_at.Statement.{statement}
@@ -23,7 +23,7 @@ sign-at-requires : tie.Need-sign-at-requires
 sign-at-requires c κs = went-ready (c .before .before .before .number-at .ensures []) (c .before .read .given .1)
 
 returns-2 : tie.Need-returns-2
-returns-2 c = λ a. then _ (c .before .before .before .before .number-at .ensures a) (c .before .before .read .given .1) (c .sign-at .ensures Mark.semicolon a refl)
+returns-2 c = λ a. then _ (c .before .before .before .before .number-at .ensures a) (c .before .before .read .given .1) (c .sign-at .ensures Fixed.semicolon a refl)
 
 pub amount-at-spec : {M : Type 1} → statement M
 amount-at-spec =

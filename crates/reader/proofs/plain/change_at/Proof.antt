@@ -1,6 +1,6 @@
 -- `reader::plain::change_at` meets its contract.
 use mathlib.Core.Path.{refl}
-use Rattle.rule.specs.Inside.Class.{Mark}
+use Rattle.rule.specs.Inside.Class.{Fixed}
 use Rattle.reader.proofs.Front.{told-sign}
 use Rattle.reader.proofs.Moves.{step, ready-on}
 use Rattle.reader.proofs.Missed.{refuses, refuses-sign}
@@ -55,7 +55,7 @@ returns-2 c =
     refl
     refl
     refl
-    (c .sign-at .ensures Mark.semicolon a refl)
+    (c .sign-at .ensures Fixed.semicolon a refl)
 
 returns-3 : tie.Need-returns-3
 returns-3 c =
@@ -65,7 +65,7 @@ returns-3 c =
     refl
     refl
     refl
-    (c .sign-at2 .ensures Mark.semicolon a refl)
+    (c .sign-at2 .ensures Fixed.semicolon a refl)
 
 returns-4 : tie.Need-returns-4
 returns-4 c =

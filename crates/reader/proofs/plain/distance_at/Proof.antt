@@ -1,6 +1,6 @@
 -- `reader::plain::distance_at` meets its contract.
 use mathlib.Core.Path.{refl}
-use Rattle.rule.specs.Inside.Class.{Mark}
+use Rattle.rule.specs.Inside.Class.{Fixed}
 use Rattle.reader.proofs.Front.{told-sign}
 use Rattle.reader.proofs.Moves.{onward, step, ready-on}
 use Rattle.reader.proofs.Missed.{refuses-sign}
@@ -21,7 +21,7 @@ cells-at-requires c κs = search needs
 returns : tie.Need-returns
 returns c =
     let first = c .before .before .token-at .ensures in
-    λ a. onward (no-minus-here first (not-sort Mark.minus (c .before .before .token-at .result) first (c .before .match .keys2))) (c .cells-at .ensures a)
+    λ a. onward (no-minus-here first (not-sort Fixed.minus (c .before .before .token-at .result) first (c .before .match .keys2))) (c .cells-at .ensures a)
 
 enum-told : tie.Need-enum-told
 enum-told c = search needs

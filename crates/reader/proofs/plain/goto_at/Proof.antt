@@ -1,7 +1,7 @@
 -- `reader::plain::goto_at` meets its contract.
 use mathlib.Core.Path.{refl}
 use mathlib.Core.List.{[]}
-use Rattle.rule.specs.Inside.Class.{Mark}
+use Rattle.rule.specs.Inside.Class.{Fixed}
 use Rattle.reader.proofs.Front.{told-word}
 use Rattle.reader.proofs.Moves.{went-ready, step, then, stop, ready-on}
 use Rattle.reader.proofs.Missed.{refuses, refuses-word}
@@ -19,7 +19,7 @@ enum-told : tie.Need-enum-told
 enum-told c = search needs
 
 returns : tie.Need-returns
-returns c = λ a. stop _ (c .before .before .sign-at .ensures Mark.opens a refl) (c .enum-told .given .1)
+returns c = λ a. stop _ (c .before .before .sign-at .ensures Fixed.opens a refl) (c .enum-told .given .1)
 
 token-at-requires : tie.Need-token-at-requires
 token-at-requires c κs = search needs
@@ -33,7 +33,7 @@ refuse-requires c κs = search needs
 returns-2 : tie.Need-returns-2
 returns-2 c =
     λ a.
-    then _ (c .before .before .before .before .before .before .sign-at .ensures Mark.opens a refl) (c .before .before .before .before .read .given .1) (refuses (c .before .before .token-at .ensures) (c .before .match2 .keys2) (c .refuse .ensures))
+    then _ (c .before .before .before .before .before .before .sign-at .ensures Fixed.opens a refl) (c .before .before .before .before .read .given .1) (refuses (c .before .before .token-at .ensures) (c .before .match2 .keys2) (c .refuse .ensures))
 
 enum-told-2 : tie.Need-enum-told-2
 enum-told-2 c = search needs
@@ -42,7 +42,7 @@ close-at-requires : tie.Need-close-at-requires
 close-at-requires c κs =
     ready-on
     (told-word (c .before .before .before .before .before .token-at .ensures) (c .before .before .before .token .given .1) (c .enum-told2 .given .1))
-    (went-ready (c .before .before .before .before .before .before .before .before .before .sign-at .ensures Mark.opens [] refl) (c .before .before .before .before .before .before .before .read .given .1))
+    (went-ready (c .before .before .before .before .before .before .before .before .before .sign-at .ensures Fixed.opens [] refl) (c .before .before .before .before .before .before .before .read .given .1))
 
 enum-told-3 : tie.Need-enum-told-3
 enum-told-3 c = search needs
@@ -51,7 +51,7 @@ close-at-requires-2 : tie.Need-close-at-requires-2
 close-at-requires-2 c κs =
     ready-on
     (told-word (c .before .before .before .before .before .token-at .ensures) (c .before .before .before .token .given .1) (c .enum-told3 .given .1))
-    (went-ready (c .before .before .before .before .before .before .before .before .before .sign-at .ensures Mark.opens [] refl) (c .before .before .before .before .before .before .before .read .given .1))
+    (went-ready (c .before .before .before .before .before .before .before .before .before .sign-at .ensures Fixed.opens [] refl) (c .before .before .before .before .before .before .before .read .given .1))
 
 refuse-requires-2 : tie.Need-refuse-requires-2
 refuse-requires-2 c κs = search needs
@@ -61,7 +61,7 @@ returns-3 c =
     λ a.
     then
     _
-    (c .before .before .before .before .before .before .before .before .before .before .sign-at .ensures Mark.opens a refl)
+    (c .before .before .before .before .before .before .before .before .before .before .sign-at .ensures Fixed.opens a refl)
     (c .before .before .before .before .before .before .before .before .read .given .1)
     (step (told-word (c .before .before .before .before .before .before .token-at .ensures) (c .before .before .before .before .token .given .1) (c .before .enum-told2 .given .1)) refl refl refl (c .close-at .ensures a))
 
@@ -70,7 +70,7 @@ returns-4 c =
     λ a.
     then
     _
-    (c .before .before .before .before .before .before .before .before .before .before .sign-at .ensures Mark.opens a refl)
+    (c .before .before .before .before .before .before .before .before .before .before .sign-at .ensures Fixed.opens a refl)
     (c .before .before .before .before .before .before .before .before .read .given .1)
     (step (told-word (c .before .before .before .before .before .before .token-at .ensures) (c .before .before .before .before .token .given .1) (c .before .enum-told3 .given .1)) refl refl refl (c .close-at2 .ensures a))
 
@@ -79,7 +79,7 @@ returns-5 c =
     λ a.
     then
     _
-    (c .before .before .before .before .before .before .before .before .before .sign-at .ensures Mark.opens a refl)
+    (c .before .before .before .before .before .before .before .before .before .sign-at .ensures Fixed.opens a refl)
     (c .before .before .before .before .before .before .before .read .given .1)
     (refuses-word (c .before .before .before .before .before .token-at .ensures) (c .before .before .before .token .given .1) (c .before .match3 .keys3) (c .refuse2 .ensures))
 

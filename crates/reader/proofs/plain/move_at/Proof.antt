@@ -1,7 +1,7 @@
 -- `reader::plain::move_at` meets its contract.
 use mathlib.Core.Path.{refl}
 use mathlib.Core.List.{[]}
-use Rattle.rule.specs.Inside.Class.{Mark}
+use Rattle.rule.specs.Inside.Class.{Fixed}
 use Rattle.reader.proofs.Moves.{went-ready, then, stop}
 use borrow.Author.Needs.{needs}
 use Rattle.reader.proofs.plain.move_at.Statement.{statement}
@@ -17,13 +17,13 @@ enum-told : tie.Need-enum-told
 enum-told c = search needs
 
 returns : tie.Need-returns
-returns c = λ a. stop _ (c .before .before .sign-at .ensures Mark.opens a refl) (c .enum-told .given .1)
+returns c = λ a. stop _ (c .before .before .sign-at .ensures Fixed.opens a refl) (c .enum-told .given .1)
 
 distance-at-requires : tie.Need-distance-at-requires
-distance-at-requires c κs = went-ready (c .before .before .before .sign-at .ensures Mark.opens [] refl) (c .before .read .given .1)
+distance-at-requires c κs = went-ready (c .before .before .before .sign-at .ensures Fixed.opens [] refl) (c .before .read .given .1)
 
 returns-2 : tie.Need-returns-2
-returns-2 c = λ a. then _ (c .before .before .before .before .sign-at .ensures Mark.opens a refl) (c .before .before .read .given .1) (c .distance-at .ensures a)
+returns-2 c = λ a. then _ (c .before .before .before .before .sign-at .ensures Fixed.opens a refl) (c .before .before .read .given .1) (c .distance-at .ensures a)
 
 pub move-at-spec : {M : Type 1} → statement M
 move-at-spec =

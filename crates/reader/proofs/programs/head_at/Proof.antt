@@ -1,7 +1,7 @@
 -- `reader::programs::head_at` meets its contract.
 use mathlib.Core.Path.{refl}
 use mathlib.Core.List.{[]}
-use Rattle.rule.specs.Inside.Class.{Mark}
+use Rattle.rule.specs.Inside.Class.{Fixed}
 use Rattle.reader.proofs.Front.{told-word}
 use Rattle.reader.proofs.Moves.{went-ready, step, then, stop, over, ready-on}
 use Rattle.reader.proofs.Missed.{refuses, refuses-word}
@@ -47,10 +47,10 @@ returns-3 c =
     refl
     refl
     refl
-    (stop _ (c .before .before .sign-at .ensures Mark.opens a refl) (c .enum-told2 .given .1))
+    (stop _ (c .before .before .sign-at .ensures Fixed.opens a refl) (c .enum-told2 .given .1))
 
 string-at-requires : tie.Need-string-at-requires
-string-at-requires c κs = went-ready (c .before .before .before .sign-at .ensures Mark.opens [] refl) (c .before .read .given .1)
+string-at-requires c κs = went-ready (c .before .before .before .sign-at .ensures Fixed.opens [] refl) (c .before .read .given .1)
 
 returns-4 : tie.Need-returns-4
 returns-4 c =
@@ -60,7 +60,7 @@ returns-4 c =
     refl
     refl
     refl
-    (then _ (c .before .before .before .before .sign-at .ensures Mark.opens a refl) (c .before .before .read .given .1) (over _ (c .string-at .ensures a)))
+    (then _ (c .before .before .before .before .sign-at .ensures Fixed.opens a refl) (c .before .before .read .given .1) (over _ (c .string-at .ensures a)))
 
 pub head-at-spec : {M : Type 1} → statement M
 head-at-spec =

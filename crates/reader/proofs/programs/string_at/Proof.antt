@@ -1,6 +1,6 @@
 -- `reader::programs::string_at` meets its contract.
 use mathlib.Core.Path.{refl}
-use Rattle.rule.specs.Inside.Class.{Mark}
+use Rattle.rule.specs.Inside.Class.{Fixed}
 use Rattle.reader.proofs.Front.{told-word}
 use Rattle.reader.proofs.Moves.{step, ready-on}
 use Rattle.reader.proofs.Missed.{refuses, refuses-word}
@@ -33,7 +33,7 @@ sign-at-requires : tie.Need-sign-at-requires
 sign-at-requires c κs = ready-on (told-word (c .before .before .before .before .before .token-at .ensures) (c .before .before .before .token .given .1) (c .enum-told .given .1)) (c .before .before .before .before .before .before .before .pre)
 
 returns-3 : tie.Need-returns-3
-returns-3 c = λ a. step (told-word (c .before .before .before .before .before .before .token-at .ensures) (c .before .before .before .before .token .given .1) (c .before .enum-told .given .1)) refl refl refl (c .sign-at .ensures Mark.closes a refl)
+returns-3 c = λ a. step (told-word (c .before .before .before .before .before .before .token-at .ensures) (c .before .before .before .before .token .given .1) (c .before .enum-told .given .1)) refl refl refl (c .sign-at .ensures Fixed.closes a refl)
 
 pub string-at-spec : {M : Type 1} → statement M
 string-at-spec =

@@ -1,7 +1,7 @@
 -- `reader::settings::alphabet_at` meets its contract.
 use mathlib.Core.Path.{refl}
 use mathlib.Core.List.{[]}
-use Rattle.rule.specs.Inside.Class.{Mark}
+use Rattle.rule.specs.Inside.Class.{Fixed}
 use Rattle.reader.specs.Inside.Answers.{alphabetOf}
 use Rattle.reader.proofs.Moves.{went-ready, then, stop}
 use Rattle.reader.proofs.Listed.{without}
@@ -22,10 +22,10 @@ no-letters-requires : tie.Need-no-letters-requires
 no-letters-requires c κs = search needs
 
 returns : tie.Need-returns
-returns c = without (c .no-letters .ensures) (λ b. stop _ (c .before .before .before .sign-at .ensures Mark.equals [] refl) (c .before .enum-told .given .1))
+returns c = without (c .no-letters .ensures) (λ b. stop _ (c .before .before .before .sign-at .ensures Fixed.equals [] refl) (c .before .enum-told .given .1))
 
 sign-at-requires-2 : tie.Need-sign-at-requires-2
-sign-at-requires-2 c κs = went-ready (c .before .before .before .sign-at .ensures Mark.equals [] refl) (c .before .read .given .1)
+sign-at-requires-2 c κs = went-ready (c .before .before .before .sign-at .ensures Fixed.equals [] refl) (c .before .read .given .1)
 
 enum-known-opened : tie.Need-enum-known-opened
 enum-known-opened c = search needs
@@ -37,10 +37,10 @@ no-letters-requires-2 : tie.Need-no-letters-requires-2
 no-letters-requires-2 c κs = search needs
 
 returns-2 : tie.Need-returns-2
-returns-2 c = without (c .no-letters2 .ensures) (λ b. then _ (c .before .before .before .before .before .before .before .sign-at .ensures Mark.equals [] refl) (c .before .before .before .before .before .read .given .1) (stop _ (c .before .before .before .sign-at2 .ensures Mark.openList [] refl) (c .before .enum-told2 .given .1)))
+returns-2 c = without (c .no-letters2 .ensures) (λ b. then _ (c .before .before .before .before .before .before .before .sign-at .ensures Fixed.equals [] refl) (c .before .before .before .before .before .read .given .1) (stop _ (c .before .before .before .sign-at2 .ensures Fixed.openList [] refl) (c .before .enum-told2 .given .1)))
 
 letters-at-requires : tie.Need-letters-at-requires
-letters-at-requires c κs = went-ready (c .before .before .before .sign-at2 .ensures Mark.openList [] refl) (c .before .opened .given .1)
+letters-at-requires c κs = went-ready (c .before .before .before .sign-at2 .ensures Fixed.openList [] refl) (c .before .opened .given .1)
 
 enum-known-list : tie.Need-enum-known-list
 enum-known-list c = search needs
@@ -55,9 +55,9 @@ returns-3 c =
       answers =
           then
           _
-          (c .before .before .before .before .before .before .before .before .before .before .before .sign-at .ensures Mark.equals [] refl)
+          (c .before .before .before .before .before .before .before .before .before .before .before .sign-at .ensures Fixed.equals [] refl)
           (c .before .before .before .before .before .before .before .before .before .read .given .1)
-          (then _ (c .before .before .before .before .before .before .before .sign-at2 .ensures Mark.openList [] refl) (c .before .before .before .before .before .opened .given .1) (stop _ (listed .answers) (c .enum-told3 .given .1)));
+          (then _ (c .before .before .before .before .before .before .before .sign-at2 .ensures Fixed.openList [] refl) (c .before .before .before .before .before .opened .given .1) (stop _ (listed .answers) (c .enum-told3 .given .1)));
       sized = listed .sized;
     }
 
@@ -71,13 +71,13 @@ returns-4 c =
       answers =
           then
           _
-          (c .before .before .before .before .before .before .before .before .before .before .before .before .before .sign-at .ensures Mark.equals [] refl)
+          (c .before .before .before .before .before .before .before .before .before .before .before .before .before .sign-at .ensures Fixed.equals [] refl)
           (c .before .before .before .before .before .before .before .before .before .before .before .read .given .1)
           (then
           _
-          (c .before .before .before .before .before .before .before .before .before .sign-at2 .ensures Mark.openList [] refl)
+          (c .before .before .before .before .before .before .before .before .before .sign-at2 .ensures Fixed.openList [] refl)
           (c .before .before .before .before .before .before .before .opened .given .1)
-          (then _ (listed .answers) (c .before .before .list .given .1) (c .sign-at3 .ensures Mark.semicolon (alphabetOf (c .before .before .before .before .before .letters-at .result .letters)) refl)));
+          (then _ (listed .answers) (c .before .before .list .given .1) (c .sign-at3 .ensures Fixed.semicolon (alphabetOf (c .before .before .before .before .before .letters-at .result .letters)) refl)));
       sized = listed .sized;
     }
 

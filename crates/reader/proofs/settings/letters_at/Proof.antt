@@ -6,7 +6,7 @@ use mathlib.Core.List.{List, [], _∷_}
 use lib.ListN.{length}
 use borrow.Author.Needs.{needs}
 use Rattle.rule.specs.Inside.Machine as Machine
-use Rattle.reader.specs.Inside.Answers.{alphabetOf, Sized, totals, spot, Comes, Ready}
+use Rattle.reader.specs.Inside.Answers.{alphabetOf, Sized, totals, spot, ComesTo, Ready}
 use Rattle.reader.proofs.Front.{front-sign, told-sign}
 use Rattle.reader.proofs.Moves.{stand, moves, comes-then, went, went-ready, went-forth, onward, done, step, then, stop, ready-on}
 use Rattle.reader.proofs.Missed.{refuses, refuses-sign}
@@ -16,7 +16,7 @@ use Rattle.reader.proofs.settings.letters_at.Tie as tie
 
 abbrev Inv-loop : tie.InvT-loop
 Inv-loop text at from₀ counts₀ letters₀ from counts letters =
-    Comes
+    ComesTo
     text
     (spot from₀ (Machine.letters ∷ []) (totals [] counts₀))
     (spot from (Machine.letters ∷ []) (totals (alphabetOf letters) counts))
@@ -32,7 +32,7 @@ none-requires c κs = search needs
 loop-holds : tie.Need-loop-holds Inv-loop μ-loop
 loop-holds c =
     let start = c .before .before in
-    (subst (λ (a : List ℕ). Comes (start .args .text .now) (spot (start .args .at) (Machine.letters ∷ []) (totals [] (start .args .counts))) (spot (start .args .at) (Machine.letters ∷ []) (totals a (start .args .counts)))) (sym (c .none .ensures .1)) (stand _), start .pre, c .none .ensures .0)
+    (subst (λ (a : List ℕ). ComesTo (start .args .text .now) (spot (start .args .at) (Machine.letters ∷ []) (totals [] (start .args .counts))) (spot (start .args .at) (Machine.letters ∷ []) (totals a (start .args .counts)))) (sym (c .none .ensures .1)) (stand _), start .pre, c .none .ensures .0)
 
 letter-at-requires : tie.Need-letter-at-requires Inv-loop μ-loop
 letter-at-requires c κs = (c .loop .inv .1, c .loop .inv .2)

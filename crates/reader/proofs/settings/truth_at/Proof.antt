@@ -1,7 +1,7 @@
 -- `reader::settings::truth_at` meets its contract.
 use mathlib.Core.Path.{refl}
 use mathlib.Core.List.{[]}
-use Rattle.rule.specs.Inside.Class.{Mark}
+use Rattle.rule.specs.Inside.Class.{Fixed}
 use Rattle.reader.proofs.Front.{told-word}
 use Rattle.reader.proofs.Moves.{went-ready, step, then, stop, ready-on}
 use Rattle.reader.proofs.Missed.{refuses, refuses-word}
@@ -19,7 +19,7 @@ enum-told : tie.Need-enum-told
 enum-told c = search needs
 
 returns : tie.Need-returns
-returns c = λ a. stop _ (c .before .before .sign-at .ensures Mark.equals a refl) (c .enum-told .given .1)
+returns c = λ a. stop _ (c .before .before .sign-at .ensures Fixed.equals a refl) (c .enum-told .given .1)
 
 token-at-requires : tie.Need-token-at-requires
 token-at-requires c κs = search needs
@@ -31,7 +31,7 @@ refuse-requires : tie.Need-refuse-requires
 refuse-requires c κs = search needs
 
 returns-2 : tie.Need-returns-2
-returns-2 c = λ a. then _ (c .before .before .before .before .before .before .sign-at .ensures Mark.equals a refl) (c .before .before .before .before .read .given .1) (refuses (c .before .before .token-at .ensures) (c .before .match2 .keys2) (c .refuse .ensures))
+returns-2 c = λ a. then _ (c .before .before .before .before .before .before .sign-at .ensures Fixed.equals a refl) (c .before .before .before .before .read .given .1) (refuses (c .before .before .token-at .ensures) (c .before .match2 .keys2) (c .refuse .ensures))
 
 enum-told-2 : tie.Need-enum-told-2
 enum-told-2 c = search needs
@@ -40,7 +40,7 @@ sign-at-requires-2 : tie.Need-sign-at-requires-2
 sign-at-requires-2 c κs =
     ready-on
     (told-word (c .before .before .before .before .before .token-at .ensures) (c .before .before .before .token .given .1) (c .enum-told2 .given .1))
-    (went-ready (c .before .before .before .before .before .before .before .before .before .sign-at .ensures Mark.equals [] refl) (c .before .before .before .before .before .before .before .read .given .1))
+    (went-ready (c .before .before .before .before .before .before .before .before .before .sign-at .ensures Fixed.equals [] refl) (c .before .before .before .before .before .before .before .read .given .1))
 
 enum-told-3 : tie.Need-enum-told-3
 enum-told-3 c = search needs
@@ -49,7 +49,7 @@ sign-at-requires-3 : tie.Need-sign-at-requires-3
 sign-at-requires-3 c κs =
     ready-on
     (told-word (c .before .before .before .before .before .token-at .ensures) (c .before .before .before .token .given .1) (c .enum-told3 .given .1))
-    (went-ready (c .before .before .before .before .before .before .before .before .before .sign-at .ensures Mark.equals [] refl) (c .before .before .before .before .before .before .before .read .given .1))
+    (went-ready (c .before .before .before .before .before .before .before .before .before .sign-at .ensures Fixed.equals [] refl) (c .before .before .before .before .before .before .before .read .given .1))
 
 refuse-requires-2 : tie.Need-refuse-requires-2
 refuse-requires-2 c κs = search needs
@@ -59,21 +59,21 @@ returns-3 c =
     λ a.
     then
     _
-    (c .before .before .before .before .before .before .before .before .before .before .sign-at .ensures Mark.equals a refl)
+    (c .before .before .before .before .before .before .before .before .before .before .sign-at .ensures Fixed.equals a refl)
     (c .before .before .before .before .before .before .before .before .read .given .1)
-    (step (told-word (c .before .before .before .before .before .before .token-at .ensures) (c .before .before .before .before .token .given .1) (c .before .enum-told2 .given .1)) refl refl refl (c .sign-at2 .ensures Mark.semicolon a refl))
+    (step (told-word (c .before .before .before .before .before .before .token-at .ensures) (c .before .before .before .before .token .given .1) (c .before .enum-told2 .given .1)) refl refl refl (c .sign-at2 .ensures Fixed.semicolon a refl))
 
 returns-4 : tie.Need-returns-4
 returns-4 c =
     λ a.
     then
     _
-    (c .before .before .before .before .before .before .before .before .before .before .sign-at .ensures Mark.equals a refl)
+    (c .before .before .before .before .before .before .before .before .before .before .sign-at .ensures Fixed.equals a refl)
     (c .before .before .before .before .before .before .before .before .read .given .1)
-    (step (told-word (c .before .before .before .before .before .before .token-at .ensures) (c .before .before .before .before .token .given .1) (c .before .enum-told3 .given .1)) refl refl refl (c .sign-at3 .ensures Mark.semicolon a refl))
+    (step (told-word (c .before .before .before .before .before .before .token-at .ensures) (c .before .before .before .before .token .given .1) (c .before .enum-told3 .given .1)) refl refl refl (c .sign-at3 .ensures Fixed.semicolon a refl))
 
 returns-5 : tie.Need-returns-5
-returns-5 c = λ a. then _ (c .before .before .before .before .before .before .before .before .before .sign-at .ensures Mark.equals a refl) (c .before .before .before .before .before .before .before .read .given .1) (refuses-word (c .before .before .before .before .before .token-at .ensures) (c .before .before .before .token .given .1) (c .before .match3 .keys3) (c .refuse2 .ensures))
+returns-5 c = λ a. then _ (c .before .before .before .before .before .before .before .before .before .sign-at .ensures Fixed.equals a refl) (c .before .before .before .before .before .before .before .read .given .1) (refuses-word (c .before .before .before .before .before .token-at .ensures) (c .before .before .before .token .given .1) (c .before .match3 .keys3) (c .refuse2 .ensures))
 
 pub truth-at-spec : {M : Type 1} → statement M
 truth-at-spec =

@@ -7,9 +7,9 @@ use lib.ListN.{length}
 use borrow.Author.Needs.{needs}
 use Rattle.bits.specs.Byte.{spelling}
 use Rattle.text.specs.declared.Word.the-variants as Word
-use Rattle.rule.specs.Inside.Class.{Mark}
+use Rattle.rule.specs.Inside.Class.{Fixed}
 use Rattle.rule.specs.Inside.Machine.{block, statements, arms}
-use Rattle.reader.specs.Inside.Answers.{alphabetOf, totals, spot, Comes, Ready}
+use Rattle.reader.specs.Inside.Answers.{alphabetOf, totals, spot, ComesTo, Ready}
 use Rattle.reader.proofs.Front.{front-sign, front-word, told-sign, told-word}
 use Rattle.reader.proofs.Moves.{
   stand,
@@ -224,7 +224,7 @@ branch-at-claims t = (
 
 abbrev branch-at-Inv-loop : branch-at-lts.InvT-loop
 branch-at-Inv-loop text at letters left from₀ so-far₀ arms-read₀ from so-far arms-read =
-    Comes
+    ComesTo
     text
     (spot from₀ (block (16 - left) ∷ arms (16 - left) 1 ∷ []) (totals (alphabetOf letters) so-far₀))
     (spot from (block (16 - left) ∷ behindArms (16 - left) arms-read ∷ []) (totals (alphabetOf letters) so-far))
@@ -273,7 +273,7 @@ branch-at-returns-2 t c =
     (c .before .before .before .before .arm .given .1)
     first
     refl
-    (not-sort Mark.also (c .before .before .token-at .result) first (c .before .match2 .keys2))
+    (not-sort Fixed.also (c .before .before .token-at .result) first (c .before .match2 .keys2))
     (missed-sort (start .args .text .now) (arms (16 - start .args .left) 1) _ (c .before .before .token-at .result) (c .before .match2 .keys2))
     (c .last-arm .ensures))
 
@@ -295,7 +295,7 @@ branch-at-returns-3 t c =
     (c .before .before .before .before .before .before .before .arm .given .1)
     first
     (at-token .token .given .1)
-    (not-word Mark.also Word.Also (spelling "also") first refl refl (at-token .token .given .1) (c .before .match3 .keys2))
+    (not-word Fixed.also Word.Also (spelling "also") first refl refl (at-token .token .given .1) (c .before .match3 .keys2))
     (missed-word
     (start .args .text .now)
     (arms (16 - start .args .left) 1)
@@ -392,12 +392,12 @@ if-at-enum-told : (t : ℕ) → if-at-lts.Need-enum-told (if-at-claims t) (if-at
 if-at-enum-told t c = search needs
 
 if-at-returns : (t : ℕ) → if-at-lts.Need-returns (if-at-claims t) (if-at-at t) if-at.Post
-if-at-returns t c = stop _ (c .before .before .sign-at .ensures Mark.opens (alphabetOf (c .before .before .before .before .args .letters)) refl) (c .enum-told .given .1)
+if-at-returns t c = stop _ (c .before .before .sign-at .ensures Fixed.opens (alphabetOf (c .before .before .before .before .args .letters)) refl) (c .enum-told .given .1)
 
 if-at-guarded-at-requires : (t : ℕ) → if-at-lts.Need-guarded-at-requires (if-at-claims t) (if-at-at t) if-at.Post
 if-at-guarded-at-requires t c κs =
     let start = c .before .before .before .before .before in
-    let opened = c .before .before .before .sign-at .ensures Mark.opens (alphabetOf (c .before .before .before .before .before .args .letters)) refl in
+    let opened = c .before .before .before .sign-at .ensures Fixed.opens (alphabetOf (c .before .before .before .before .before .args .letters)) refl in
     (omega (arith, start .pre .0, went-forth opened (c .before .read .given .1), went-ready opened (c .before .read .given .1)), (went-ready opened (c .before .read .given .1), start .pre .1 .1))
 
 if-at-enum-known-guarded : (t : ℕ) → if-at-lts.Need-enum-known-guarded (if-at-claims t) (if-at-at t) if-at.Post
@@ -407,7 +407,7 @@ if-at-enum-told-2 : (t : ℕ) → if-at-lts.Need-enum-told-2 (if-at-claims t) (i
 if-at-enum-told-2 t c = search needs
 
 if-at-returns-2 : (t : ℕ) → if-at-lts.Need-returns-2 (if-at-claims t) (if-at-at t) if-at.Post
-if-at-returns-2 t c = then _ (c .before .before .before .before .before .before .sign-at .ensures Mark.opens (alphabetOf (c .before .before .before .before .before .before .before .before .args .letters)) refl) (c .before .before .before .before .read .given .1) (stop _ (c .before .before .guarded-at .ensures) (c .enum-told2 .given .1))
+if-at-returns-2 t c = then _ (c .before .before .before .before .before .before .sign-at .ensures Fixed.opens (alphabetOf (c .before .before .before .before .before .before .before .before .args .letters)) refl) (c .before .before .before .before .read .given .1) (stop _ (c .before .before .guarded-at .ensures) (c .enum-told2 .given .1))
 
 if-at-token-at-requires : (t : ℕ) → if-at-lts.Need-token-at-requires (if-at-claims t) (if-at-at t) if-at.Post
 if-at-token-at-requires t c κs = search needs
@@ -420,13 +420,13 @@ if-at-returns-3 t c =
     let first = c .before .token-at .ensures in
     then
     _
-    (c .before .before .before .before .before .before .before .before .before .sign-at .ensures Mark.opens (alphabetOf (c .before .before .before .before .before .before .before .before .before .before .before .args .letters)) refl)
+    (c .before .before .before .before .before .before .before .before .before .sign-at .ensures Fixed.opens (alphabetOf (c .before .before .before .before .before .before .before .before .before .before .before .args .letters)) refl)
     (c .before .before .before .before .before .before .before .read .given .1)
     (stay
     _
     (c .before .before .before .before .before .guarded-at .ensures)
     (c .before .before .before .guarded .given .1)
-    (no-else-here first (not-sort Mark.else (c .before .token-at .result) first (c .match3 .keys2))))
+    (no-else-here first (not-sort Fixed.else (c .before .token-at .result) first (c .match3 .keys2))))
 
 if-at-enum-told-3 : (t : ℕ) → if-at-lts.Need-enum-told-3 (if-at-claims t) (if-at-at t) if-at.Post
 if-at-enum-told-3 t c = search needs
@@ -436,18 +436,18 @@ if-at-returns-4 t c =
     let first = c .before .before .before .before .token-at .ensures in
     then
     _
-    (c .before .before .before .before .before .before .before .before .before .before .before .before .sign-at .ensures Mark.opens (alphabetOf (c .before .before .before .before .before .before .before .before .before .before .before .before .before .before .args .letters)) refl)
+    (c .before .before .before .before .before .before .before .before .before .before .before .before .sign-at .ensures Fixed.opens (alphabetOf (c .before .before .before .before .before .before .before .before .before .before .before .before .before .before .args .letters)) refl)
     (c .before .before .before .before .before .before .before .before .before .before .read .given .1)
     (stay
     _
     (c .before .before .before .before .before .before .before .before .guarded-at .ensures)
     (c .before .before .before .before .before .before .guarded .given .1)
-    (no-else-here first (not-word Mark.else Word.Else (spelling "else") first refl refl (c .before .before .token .given .1) (c .match4 .keys2))))
+    (no-else-here first (not-word Fixed.else Word.Else (spelling "else") first refl refl (c .before .before .token .given .1) (c .match4 .keys2))))
 
 if-at-block-at-requires : (t : ℕ) → if-at-lts.Need-block-at-requires (if-at-claims t) (if-at-at t) if-at.Post
 if-at-block-at-requires t c κs =
     let start = c .before .before .before .before .before .before .before .before .before .before .before .before .before .before .before in
-    let opened = c .before .before .before .before .before .before .before .before .before .before .before .before .before .sign-at .ensures Mark.opens (alphabetOf (c .before .before .before .before .before .before .before .before .before .before .before .before .before .before .before .args .letters)) refl in
+    let opened = c .before .before .before .before .before .before .before .before .before .before .before .before .before .sign-at .ensures Fixed.opens (alphabetOf (c .before .before .before .before .before .before .before .before .before .before .before .before .before .before .before .args .letters)) refl in
     let guarded = c .before .before .before .before .before .before .before .before .before .guarded-at .ensures in
     let f = front-word (c .before .before .before .before .before .token-at .ensures) (c .before .before .before .token .given .1) in
     (omega (arith, start .pre .0, went-forth opened (c .before .before .before .before .before .before .before .before .before .before .before .read .given .1), went-forth guarded (c .before .before .before .before .before .before .before .guarded .given .1), f .back, f .some, f .within), (ready-on f (went-ready guarded (c .before .before .before .before .before .before .before .guarded .given .1)), start .pre .1 .1))
@@ -456,7 +456,7 @@ if-at-returns-5 : (t : ℕ) → if-at-lts.Need-returns-5 (if-at-claims t) (if-at
 if-at-returns-5 t c =
     then
     _
-    (c .before .before .before .before .before .before .before .before .before .before .before .before .before .before .sign-at .ensures Mark.opens (alphabetOf (c .before .before .before .before .before .before .before .before .before .before .before .before .before .before .before .before .args .letters)) refl)
+    (c .before .before .before .before .before .before .before .before .before .before .before .before .before .before .sign-at .ensures Fixed.opens (alphabetOf (c .before .before .before .before .before .before .before .before .before .before .before .before .before .before .before .before .args .letters)) refl)
     (c .before .before .before .before .before .before .before .before .before .before .before .before .read .given .1)
     (then
     _
@@ -632,7 +632,7 @@ statement-at-returns-5 t c =
     refl
     refl
     (counts-plus _ (c .before .plus4 .ensures))
-    (over _ (c .sign-at .ensures Mark.semicolon (alphabetOf (c .before .before .before .before .before .before .before .before .before .args .letters)) refl))
+    (over _ (c .sign-at .ensures Fixed.semicolon (alphabetOf (c .before .before .before .before .before .before .before .before .before .args .letters)) refl))
 
 statement-at-returns-6 : (t : ℕ) → statement-at-lts.Need-returns-6 (statement-at-claims t) (statement-at-at t) statement-at.Post
 statement-at-returns-6 t c =
@@ -641,7 +641,7 @@ statement-at-returns-6 t c =
     refl
     refl
     (counts-plus _ (c .before .plus5 .ensures))
-    (over _ (c .sign-at2 .ensures Mark.semicolon (alphabetOf (c .before .before .before .before .before .before .before .before .before .args .letters)) refl))
+    (over _ (c .sign-at2 .ensures Fixed.semicolon (alphabetOf (c .before .before .before .before .before .before .before .before .before .args .letters)) refl))
 
 statement-at-returns-7 : (t : ℕ) → statement-at-lts.Need-returns-7 (statement-at-claims t) (statement-at-at t) statement-at.Post
 statement-at-returns-7 t c =
@@ -685,7 +685,7 @@ statements-at-claims t = (
 
 abbrev statements-at-Inv-loop : statements-at-lts.InvT-loop
 statements-at-Inv-loop text at letters left from₀ so-far₀ from so-far =
-    Comes
+    ComesTo
     text
     (spot from₀ (statements (16 - left) ∷ []) (totals (alphabetOf letters) so-far₀))
     (spot from (statements (16 - left) ∷ []) (totals (alphabetOf letters) so-far))
