@@ -4,8 +4,8 @@ ghost use Rattle.text.specs.Token.{w};
 ghost use Rattle.compiler.specs.Inside.Emission.{Ready, Emits, HeadedTask, EntryTask, StatementTask, RestTask, BodyTask, ElseTask, ArmsTask};
 use super::Place;
 use super::plain::change;
-use super::plain::jump;
-use super::plain::motion;
+use super::plain::emit_goto;
+use super::plain::emit_move;
 use super::plain::stop;
 use super::see::past;
 use super::see::see;
@@ -62,7 +62,7 @@ fn otherwise(text: &[u8], out: &mut [u8], place: Place, to: usize) -> Place
 }
 
 // if ( cond ) block, with an optional else block. Each of the statements below starts behind its first word.
-fn conditional(text: &[u8], out: &mut [u8], place: Place) -> Place
+fn emit_if(text: &[u8], out: &mut [u8], place: Place) -> Place
     requires { ⌜ Ready (HeadedTask (w "if")) (now text) (now out) place ⌝ }
     ensures { λ r. ⌜ Emits (HeadedTask (w "if")) (now (text .entry)) (now (out .entry)) (now (out .exit)) place r ⌝ }
 {
@@ -208,12 +208,12 @@ fn statement(text: &[u8], out: &mut [u8], place: Place) -> Place
     };
     let word = t.word;
     match word {
-        Word::Move => motion(text, out, behind),
-        Word::Goto => jump(text, out, behind),
+        Word::Move => emit_move(text, out, behind),
+        Word::Goto => emit_goto(text, out, behind),
         Word::C => change(text, out, behind),
         Word::Accept => accepted(text, out, behind),
         Word::Reject => stop(text, behind),
-        Word::If => conditional(text, out, behind),
+        Word::If => emit_if(text, out, behind),
         Word::While => repeated(text, out, behind),
         _ => branched(text, out, behind),
     }

@@ -36,7 +36,7 @@ fn step(
 }
 
 // move ( n ) ; and move ( - n ) ;
-pub fn motion(text: &[u8], out: &mut [u8], place: Place) -> Place
+pub fn emit_move(text: &[u8], out: &mut [u8], place: Place) -> Place
     requires { ⌜ Ready (HeadedTask (w "move")) (now text) (now out) place ⌝ }
     ensures { λ r. ⌜ Emits (HeadedTask (w "move")) (now (text .entry)) (now (out .entry)) (now (out .exit)) place r ⌝ }
 {
@@ -53,7 +53,7 @@ pub fn motion(text: &[u8], out: &mut [u8], place: Place) -> Place
 }
 
 // goto ( lend ) ; and goto ( rend ) ;
-pub fn jump(text: &[u8], out: &mut [u8], place: Place) -> Place
+pub fn emit_goto(text: &[u8], out: &mut [u8], place: Place) -> Place
     requires { ⌜ Ready (HeadedTask (w "goto")) (now text) (now out) place ⌝ }
     ensures { λ r. ⌜ Emits (HeadedTask (w "goto")) (now (text .entry)) (now (out .entry)) (now (out .exit)) place r ⌝ }
 {

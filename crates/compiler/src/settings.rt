@@ -56,7 +56,7 @@ struct Settled {
 }
 
 // The two settings, in either order.
-fn settle(text: &[u8], out: &mut [u8]) -> Settled
+fn emit_settings(text: &[u8], out: &mut [u8]) -> Settled
     requires { ⌜ Settings (now text) (now out) ⌝ }
     ensures { λ r. ⌜ Settles (now (text .entry)) (now (out .entry)) (now (out .exit)) r ⌝ }
 {
@@ -88,7 +88,7 @@ pub fn begin(text: &[u8], out: &mut [u8], states: usize, rows: usize) -> Place
     requires { ⌜ Emittable (now text) (now out) states rows ⌝ }
     ensures { λ r. ⌜ Begins (now (text .entry)) (now (out .entry)) (now (out .exit)) states rows r ⌝ }
 {
-    let settled = settle(text, out);
+    let settled = emit_settings(text, out);
     write::header(out, settled.count, settled.stops, states, rows);
     Place {
         at: past(text, settled.at, 5),

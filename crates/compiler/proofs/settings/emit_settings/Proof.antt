@@ -1,8 +1,8 @@
 -- Which word comes first says in which order the settings stand. Assumes nothing.
 use borrow.Author.Needs.{needs}
 use Rattle.compiler.proofs.Setting.{letters-first, letters-last, settled-first, settled-last}
-use Rattle.compiler.proofs.settings.settle.Statement.{statement}
-use Rattle.compiler.proofs.settings.settle.Tie as tie
+use Rattle.compiler.proofs.settings.emit_settings.Statement.{statement}
+use Rattle.compiler.proofs.settings.emit_settings.Tie as tie
 
 see-requires : tie.Need-see-requires
 see-requires c κs = search needs
@@ -68,8 +68,8 @@ returns-2 c =
           settled-last lists (letters-last sees other (c .before .before .before .before .before .past4 .ensures) a) (c .before .past5 .ensures) (c .truth2 .ensures);
     }
 
-pub settle-spec : {M : Type 1} → statement M
-settle-spec =
+pub emit-settings-spec : {M : Type 1} → statement M
+emit-settings-spec =
     tie.close
     (tie.spec
     see-requires

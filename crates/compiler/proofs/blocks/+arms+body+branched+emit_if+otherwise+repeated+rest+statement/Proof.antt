@@ -55,42 +55,42 @@ use borrow.Fn.Kinds.{In}
 use borrow.Fn.PlainCycle.{Measures, is, falls, and}
 use Rattle.compiler.proofs.blocks.arms.Reads as arms
 use Rattle.compiler.proofs.blocks.arms.Kinds as arms-kinds
-use Rattle.compiler.proofs.blocks.+arms+body+branched+conditional+otherwise+repeated+rest+statement.Lts-arms as arms-lts
+use Rattle.compiler.proofs.blocks.+arms+body+branched+emit_if+otherwise+repeated+rest+statement.Lts-arms as arms-lts
 use Rattle.compiler.proofs.blocks.body.Reads as body
 use Rattle.compiler.proofs.blocks.body.Kinds as body-kinds
-use Rattle.compiler.proofs.blocks.+arms+body+branched+conditional+otherwise+repeated+rest+statement.Lts-body as body-lts
+use Rattle.compiler.proofs.blocks.+arms+body+branched+emit_if+otherwise+repeated+rest+statement.Lts-body as body-lts
 use Rattle.compiler.proofs.blocks.branched.Reads as branched
 use Rattle.compiler.proofs.blocks.branched.Kinds as branched-kinds
-use Rattle.compiler.proofs.blocks.+arms+body+branched+conditional+otherwise+repeated+rest+statement.Lts-branched as branched-lts
-use Rattle.compiler.proofs.blocks.conditional.Reads as conditional
-use Rattle.compiler.proofs.blocks.conditional.Kinds as conditional-kinds
-use Rattle.compiler.proofs.blocks.+arms+body+branched+conditional+otherwise+repeated+rest+statement.Lts-conditional as conditional-lts
+use Rattle.compiler.proofs.blocks.+arms+body+branched+emit_if+otherwise+repeated+rest+statement.Lts-branched as branched-lts
+use Rattle.compiler.proofs.blocks.emit_if.Reads as emit-if
+use Rattle.compiler.proofs.blocks.emit_if.Kinds as emit-if-kinds
+use Rattle.compiler.proofs.blocks.+arms+body+branched+emit_if+otherwise+repeated+rest+statement.Lts-emit_if as emit-if-lts
 use Rattle.compiler.proofs.blocks.otherwise.Reads as otherwise
 use Rattle.compiler.proofs.blocks.otherwise.Kinds as otherwise-kinds
-use Rattle.compiler.proofs.blocks.+arms+body+branched+conditional+otherwise+repeated+rest+statement.Lts-otherwise as otherwise-lts
+use Rattle.compiler.proofs.blocks.+arms+body+branched+emit_if+otherwise+repeated+rest+statement.Lts-otherwise as otherwise-lts
 use Rattle.compiler.proofs.blocks.repeated.Reads as repeated
 use Rattle.compiler.proofs.blocks.repeated.Kinds as repeated-kinds
-use Rattle.compiler.proofs.blocks.+arms+body+branched+conditional+otherwise+repeated+rest+statement.Lts-repeated as repeated-lts
+use Rattle.compiler.proofs.blocks.+arms+body+branched+emit_if+otherwise+repeated+rest+statement.Lts-repeated as repeated-lts
 use Rattle.compiler.proofs.blocks.rest.Reads as rest
 use Rattle.compiler.proofs.blocks.rest.Kinds as rest-kinds
-use Rattle.compiler.proofs.blocks.+arms+body+branched+conditional+otherwise+repeated+rest+statement.Lts-rest as rest-lts
+use Rattle.compiler.proofs.blocks.+arms+body+branched+emit_if+otherwise+repeated+rest+statement.Lts-rest as rest-lts
 use Rattle.compiler.proofs.blocks.statement.Reads as statement′
 use Rattle.compiler.proofs.blocks.statement.Kinds as statement-kinds
-use Rattle.compiler.proofs.blocks.+arms+body+branched+conditional+otherwise+repeated+rest+statement.Lts-statement as statement-lts
+use Rattle.compiler.proofs.blocks.+arms+body+branched+emit_if+otherwise+repeated+rest+statement.Lts-statement as statement-lts
 use Rattle.compiler.proofs.blocks.accepted.Reads as accepted-reads
 use Rattle.compiler.proofs.blocks.entry.Reads as entry-reads
 use Rattle.compiler.proofs.plain.change.Reads as change-reads
-use Rattle.compiler.proofs.plain.jump.Reads as jump-reads
-use Rattle.compiler.proofs.plain.motion.Reads as motion-reads
+use Rattle.compiler.proofs.plain.emit_goto.Reads as emit-goto-reads
+use Rattle.compiler.proofs.plain.emit_move.Reads as emit-move-reads
 use Rattle.compiler.proofs.plain.stop.Reads as stop-reads
 use Rattle.compiler.proofs.see.past.Reads as past-reads
 use Rattle.compiler.proofs.see.see.Reads as see-reads
 use Rattle.compiler.proofs.walk.tested.Reads as tested-reads
 use Rattle.compiler.proofs.write.free.Reads as free-reads
-use Rattle.compiler.proofs.blocks.+arms+body+branched+conditional+otherwise+repeated+rest+statement.{
+use Rattle.compiler.proofs.blocks.+arms+body+branched+emit_if+otherwise+repeated+rest+statement.{
   statement,
 }
-use Rattle.compiler.proofs.blocks.+arms+body+branched+conditional+otherwise+repeated+rest+statement.Tie.{
+use Rattle.compiler.proofs.blocks.+arms+body+branched+emit_if+otherwise+repeated+rest+statement.Tie.{
   close,
 }
 
@@ -103,8 +103,8 @@ abbrev μ-body : Measures 2 body-kinds.ps ℕ
 abbrev μ-branched : Measures 2 branched-kinds.ps ℕ
 μ-branched κs a = 3 * (length (a .0 .now) - a .1 .1 .0 .at) + 2
 
-abbrev μ-conditional : Measures 2 conditional-kinds.ps ℕ
-μ-conditional κs a = 3 * (length (a .0 .now) - a .1 .1 .0 .at) + 2
+abbrev μ-emit-if : Measures 2 emit-if-kinds.ps ℕ
+μ-emit-if κs a = 3 * (length (a .0 .now) - a .1 .1 .0 .at) + 2
 
 abbrev μ-otherwise : Measures 2 otherwise-kinds.ps ℕ
 μ-otherwise κs a = 3 * (length (a .0 .now) - a .1 .1 .0 .at) + 1
@@ -137,13 +137,13 @@ abbrev branched-below : ℕ → In 2 branched-kinds.ps
 branched-below t =
     and 2 branched-kinds.ps (falls 2 branched-kinds.ps _<_ μ-branched t) branched.Pre
 
-abbrev conditional-at : ℕ → In 2 conditional-kinds.ps
-conditional-at t =
-    and 2 conditional-kinds.ps (is 2 conditional-kinds.ps μ-conditional t) conditional.Pre
+abbrev emit-if-at : ℕ → In 2 emit-if-kinds.ps
+emit-if-at t =
+    and 2 emit-if-kinds.ps (is 2 emit-if-kinds.ps μ-emit-if t) emit-if.Pre
 
-abbrev conditional-below : ℕ → In 2 conditional-kinds.ps
-conditional-below t =
-    and 2 conditional-kinds.ps (falls 2 conditional-kinds.ps _<_ μ-conditional t) conditional.Pre
+abbrev emit-if-below : ℕ → In 2 emit-if-kinds.ps
+emit-if-below t =
+    and 2 emit-if-kinds.ps (falls 2 emit-if-kinds.ps _<_ μ-emit-if t) emit-if.Pre
 
 abbrev otherwise-at : ℕ → In 2 otherwise-kinds.ps
 otherwise-at t = and 2 otherwise-kinds.ps (is 2 otherwise-kinds.ps μ-otherwise t) otherwise.Pre
@@ -181,8 +181,8 @@ body-calls t = (past-reads.Asked, past-reads.Learnt, rest-below t, rest.Post, fr
 abbrev branched-calls : ℕ → branched-lts.Claims
 branched-calls t = (arms-below t, arms.Post)
 
-abbrev conditional-calls : ℕ → conditional-lts.Claims
-conditional-calls t = (tested-reads.Asked, tested-reads.Learnt, body-below t, body.Post, otherwise-below t, otherwise.Post)
+abbrev emit-if-calls : ℕ → emit-if-lts.Claims
+emit-if-calls t = (tested-reads.Asked, tested-reads.Learnt, body-below t, body.Post, otherwise-below t, otherwise.Post)
 
 abbrev otherwise-calls : ℕ → otherwise-lts.Claims
 otherwise-calls t = (see-reads.Asked, see-reads.Learnt, body-below t, body.Post, free-reads.Asked, free-reads.Learnt)
@@ -194,7 +194,7 @@ abbrev rest-calls : ℕ → rest-lts.Claims
 rest-calls t = (see-reads.Asked, see-reads.Learnt, statement-below t, statement′.Post, rest-below t, rest.Post)
 
 abbrev statement-calls : ℕ → statement-lts.Claims
-statement-calls t = (see-reads.Asked, see-reads.Learnt, motion-reads.Asked, motion-reads.Learnt, jump-reads.Asked, jump-reads.Learnt, change-reads.Asked, change-reads.Learnt, accepted-reads.Asked, accepted-reads.Learnt, stop-reads.Asked, stop-reads.Learnt, conditional-below t, conditional.Post, repeated-below t, repeated.Post, branched-below t, branched.Post)
+statement-calls t = (see-reads.Asked, see-reads.Learnt, emit-move-reads.Asked, emit-move-reads.Learnt, emit-goto-reads.Asked, emit-goto-reads.Learnt, change-reads.Asked, change-reads.Learnt, accepted-reads.Asked, accepted-reads.Learnt, stop-reads.Asked, stop-reads.Learnt, emit-if-below t, emit-if.Post, repeated-below t, repeated.Post, branched-below t, branched.Post)
 
 arms-free-requires : (t : ℕ) → arms-lts.Need-free-requires (arms-calls t) (arms-at t) arms.Post
 arms-free-requires t c κs = arms-room (settled (c .before .before .before .pre .1 .doing))
@@ -302,26 +302,26 @@ branched-returns t c =
     let more = c .before .before .arms .ensures in
     record { emits = λ d. more .emits (branch-doing (settled d)); onward = more .onward }
 
-conditional-add-yes : (t : ℕ) → conditional-lts.Need-add-yes (conditional-calls t) (conditional-at t) conditional.Post
-conditional-add-yes t c = omega (arith, if-few (settled (c .before .before .pre .1 .doing)))
+emit-if-add-yes : (t : ℕ) → emit-if-lts.Need-add-yes (emit-if-calls t) (emit-if-at t) emit-if.Post
+emit-if-add-yes t c = omega (arith, if-few (settled (c .before .before .pre .1 .doing)))
 
-conditional-add-no : (t : ℕ) → conditional-lts.Need-add-no (conditional-calls t) (conditional-at t) conditional.Post
-conditional-add-no t c = omega (arith, if-few (settled (c .before .before .pre .1 .doing)))
+emit-if-add-no : (t : ℕ) → emit-if-lts.Need-add-no (emit-if-calls t) (emit-if-at t) emit-if.Post
+emit-if-add-no t c = omega (arith, if-few (settled (c .before .before .pre .1 .doing)))
 
-conditional-add-t12 : (t : ℕ) → conditional-lts.Need-add-t12 (conditional-calls t) (conditional-at t) conditional.Post
-conditional-add-t12 t c = omega (arith, if-few (settled (c .before .before .pre .1 .doing)))
+emit-if-add-t12 : (t : ℕ) → emit-if-lts.Need-add-t12 (emit-if-calls t) (emit-if-at t) emit-if.Post
+emit-if-add-t12 t c = omega (arith, if-few (settled (c .before .before .pre .1 .doing)))
 
-conditional-tested-requires : (t : ℕ) → conditional-lts.Need-tested-requires (conditional-calls t) (conditional-at t) conditional.Post
-conditional-tested-requires t c κs = ready (if-asking (settled (c .before .before .before .pre .1 .doing)))
+emit-if-tested-requires : (t : ℕ) → emit-if-lts.Need-tested-requires (emit-if-calls t) (emit-if-at t) emit-if.Post
+emit-if-tested-requires t c κs = ready (if-asking (settled (c .before .before .before .pre .1 .doing)))
 
-conditional-body-requires : (t : ℕ) → conditional-lts.Need-body-requires (conditional-calls t) (conditional-at t) conditional.Post
-conditional-body-requires t c κs =
+emit-if-body-requires : (t : ℕ) → emit-if-lts.Need-body-requires (emit-if-calls t) (emit-if-at t) emit-if.Post
+emit-if-body-requires t c κs =
     let d = settled (c .before .before .before .before .before .before .before .pre .1 .doing) in
     let asked = c .before .before .before .tested .ensures in
     (omega (arith, c .before .before .before .before .before .before .before .pre .0, asked .onward), ready (if-holding d (asked .emits (if-asking d))))
 
-conditional-otherwise-requires : (t : ℕ) → conditional-lts.Need-otherwise-requires (conditional-calls t) (conditional-at t) conditional.Post
-conditional-otherwise-requires t c κs =
+emit-if-otherwise-requires : (t : ℕ) → emit-if-lts.Need-otherwise-requires (emit-if-calls t) (emit-if-at t) emit-if.Post
+emit-if-otherwise-requires t c κs =
     let d = settled (c .before .before .before .before .before .before .before .before .before .before .before .pre .1 .doing) in
     let asked = c .before .before .before .before .before .before .before .tested .ensures in
     let first = c .before .before .before .body .ensures in
@@ -330,11 +330,11 @@ conditional-otherwise-requires t c κs =
       ready (if-failing d e (first .emits (if-holding d e))),
     )
 
-conditional-same-length : (t : ℕ) → conditional-lts.Need-same-length (conditional-calls t) (conditional-at t) conditional.Post
-conditional-same-length t c = search needs
+emit-if-same-length : (t : ℕ) → emit-if-lts.Need-same-length (emit-if-calls t) (emit-if-at t) emit-if.Post
+emit-if-same-length t c = search needs
 
-conditional-returns : (t : ℕ) → conditional-lts.Need-returns (conditional-calls t) (conditional-at t) conditional.Post
-conditional-returns t c =
+emit-if-returns : (t : ℕ) → emit-if-lts.Need-returns (emit-if-calls t) (emit-if-at t) emit-if.Post
+emit-if-returns t c =
     let asked = c .before .before .before .before .before .before .before .before .before .before .tested .ensures in
     let first = c .before .before .before .before .before .before .body .ensures in
     let last = c .before .before .otherwise .ensures in
@@ -465,8 +465,8 @@ statement-see-requires t c κs = search needs
 statement-enum-told : (t : ℕ) → statement-lts.Need-enum-told (statement-calls t) (statement-at t) statement′.Post
 statement-enum-told t c = search needs
 
-statement-motion-requires : (t : ℕ) → statement-lts.Need-motion-requires (statement-calls t) (statement-at t) statement′.Post
-statement-motion-requires t c κs =
+statement-emit-move-requires : (t : ℕ) → statement-lts.Need-emit-move-requires (statement-calls t) (statement-at t) statement′.Post
+statement-emit-move-requires t c κs =
     let d = c .before .before .before .before .before .before .pre .1 .doing in
     let sees = c .before .before .before .see .ensures in
     let a = named sees d Word.Move _ (λ bytes which. which) tt (c .before .enum-told .given .1) in
@@ -475,8 +475,8 @@ statement-motion-requires t c κs =
 statement-enum-told-2 : (t : ℕ) → statement-lts.Need-enum-told-2 (statement-calls t) (statement-at t) statement′.Post
 statement-enum-told-2 t c = search needs
 
-statement-jump-requires : (t : ℕ) → statement-lts.Need-jump-requires (statement-calls t) (statement-at t) statement′.Post
-statement-jump-requires t c κs =
+statement-emit-goto-requires : (t : ℕ) → statement-lts.Need-emit-goto-requires (statement-calls t) (statement-at t) statement′.Post
+statement-emit-goto-requires t c κs =
     let d = c .before .before .before .before .before .before .pre .1 .doing in
     let sees = c .before .before .before .see .ensures in
     let a = named sees d Word.Goto _ (λ bytes which. which) tt (c .before .enum-told2 .given .1) in
@@ -514,8 +514,8 @@ statement-stop-requires t c κs =
 statement-enum-told-6 : (t : ℕ) → statement-lts.Need-enum-told-6 (statement-calls t) (statement-at t) statement′.Post
 statement-enum-told-6 t c = search needs
 
-statement-conditional-requires : (t : ℕ) → statement-lts.Need-conditional-requires (statement-calls t) (statement-at t) statement′.Post
-statement-conditional-requires t c κs =
+statement-emit-if-requires : (t : ℕ) → statement-lts.Need-emit-if-requires (statement-calls t) (statement-at t) statement′.Post
+statement-emit-if-requires t c κs =
     let d = c .before .before .before .before .before .before .pre .1 .doing in
     let sees = c .before .before .before .see .ensures in
     let a = named sees d Word.If _ (λ bytes which. which) tt (c .before .enum-told6 .given .1) in
@@ -545,7 +545,7 @@ statement-returns : (t : ℕ) → statement-lts.Need-returns (statement-calls t)
 statement-returns t c =
     let sees = c .before .before .before .before .before .before .see .ensures in
     let is = c .before .before .before .before .enum-told .given .1 in
-    let whole = c .before .before .motion .ensures in
+    let whole = c .before .before .emit-move .ensures in
     let a₀ = named sees (c .before .before .before .before .before .before .before .before .before .pre .1 .doing) Word.Move _ (λ bytes which. which) tt is in (
       record {
         emits = λ d. whole .emits (headed-doing sees d (named sees d Word.Move _ (λ bytes which. which) tt is));
@@ -561,7 +561,7 @@ statement-returns-2 : (t : ℕ) → statement-lts.Need-returns-2 (statement-call
 statement-returns-2 t c =
     let sees = c .before .before .before .before .before .before .see .ensures in
     let is = c .before .before .before .before .enum-told2 .given .1 in
-    let whole = c .before .before .jump .ensures in
+    let whole = c .before .before .emit-goto .ensures in
     let a₀ = named sees (c .before .before .before .before .before .before .before .before .before .pre .1 .doing) Word.Goto _ (λ bytes which. which) tt is in (
       record {
         emits = λ d. whole .emits (headed-doing sees d (named sees d Word.Goto _ (λ bytes which. which) tt is));
@@ -624,7 +624,7 @@ statement-returns-6 : (t : ℕ) → statement-lts.Need-returns-6 (statement-call
 statement-returns-6 t c =
     let sees = c .before .before .before .before .before .before .see .ensures in
     let is = c .before .before .before .before .enum-told6 .given .1 in
-    let whole = c .before .before .conditional .ensures in
+    let whole = c .before .before .emit-if .ensures in
     let a₀ = named sees (c .before .before .before .before .before .before .before .before .before .pre .1 .doing) Word.If _ (λ bytes which. which) tt is in (
       record {
         emits = λ d. whole .emits (headed-doing sees d (named sees d Word.If _ (λ bytes which. which) tt is));
@@ -665,14 +665,14 @@ statement-returns-8 t c =
       omega (arith, a₀ .behind .onward, whole .onward),
     )
 
-pub +arms+body+branched+conditional+otherwise+repeated+rest+statement-spec :
+pub +arms+body+branched+emit-if+otherwise+repeated+rest+statement-spec :
     {M : Type 1} → statement M
-+arms+body+branched+conditional+otherwise+repeated+rest+statement-spec =
++arms+body+branched+emit-if+otherwise+repeated+rest+statement-spec =
     close
     μ-arms
     μ-body
     μ-branched
-    μ-conditional
+    μ-emit-if
     μ-otherwise
     μ-repeated
     μ-rest
@@ -702,16 +702,16 @@ pub +arms+body+branched+conditional+otherwise+repeated+rest+statement-spec :
     (branched-arms-requires t)
     (branched-same-length t)
     (branched-returns t))
-    (λ t. conditional-lts.spec (conditional-calls t) (conditional-at t)
-    conditional.Post
-    (conditional-add-yes t)
-    (conditional-add-no t)
-    (conditional-add-t12 t)
-    (conditional-tested-requires t)
-    (conditional-body-requires t)
-    (conditional-otherwise-requires t)
-    (conditional-same-length t)
-    (conditional-returns t))
+    (λ t. emit-if-lts.spec (emit-if-calls t) (emit-if-at t)
+    emit-if.Post
+    (emit-if-add-yes t)
+    (emit-if-add-no t)
+    (emit-if-add-t12 t)
+    (emit-if-tested-requires t)
+    (emit-if-body-requires t)
+    (emit-if-otherwise-requires t)
+    (emit-if-same-length t)
+    (emit-if-returns t))
     (λ t. otherwise-lts.spec (otherwise-calls t) (otherwise-at t)
     otherwise.Post
     (otherwise-see-requires t)
@@ -743,9 +743,9 @@ pub +arms+body+branched+conditional+otherwise+repeated+rest+statement-spec :
     statement′.Post
     (statement-see-requires t)
     (statement-enum-told t)
-    (statement-motion-requires t)
+    (statement-emit-move-requires t)
     (statement-enum-told-2 t)
-    (statement-jump-requires t)
+    (statement-emit-goto-requires t)
     (statement-enum-told-3 t)
     (statement-change-requires t)
     (statement-enum-told-4 t)
@@ -753,7 +753,7 @@ pub +arms+body+branched+conditional+otherwise+repeated+rest+statement-spec :
     (statement-enum-told-5 t)
     (statement-stop-requires t)
     (statement-enum-told-6 t)
-    (statement-conditional-requires t)
+    (statement-emit-if-requires t)
     (statement-enum-told-7 t)
     (statement-repeated-requires t)
     (statement-branched-requires t)

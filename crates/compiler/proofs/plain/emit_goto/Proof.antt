@@ -1,8 +1,8 @@
 -- The word says to which mark it goes. Assumes nothing.
 use Rattle.compiler.proofs.Stepping.{step-room, step-emitted, step-onward, lend-short, rend-short}
 use borrow.Author.Needs.{needs}
-use Rattle.compiler.proofs.plain.jump.Statement.{statement}
-use Rattle.compiler.proofs.plain.jump.Tie as tie
+use Rattle.compiler.proofs.plain.emit_goto.Statement.{statement}
+use Rattle.compiler.proofs.plain.emit_goto.Tie as tie
 
 past-requires : tie.Need-past-requires
 past-requires c κs = search needs
@@ -55,8 +55,8 @@ returns-2 c =
       onward = step-onward d₀ (s₀ .stepping) steps (s₀ .onward);
     }
 
-pub jump-spec : {M : Type 1} → statement M
-jump-spec =
+pub emit-goto-spec : {M : Type 1} → statement M
+emit-goto-spec =
     tie.close
     (tie.spec
     past-requires

@@ -3,8 +3,8 @@ use Prim.Native.Nat.{ℕ, _+_, _-_}
 use native.Mathlib.Omega.{arith}
 use Rattle.compiler.proofs.Stepping.{step-room, step-emitted, step-onward, stepping-by, back-counted, forward-counted}
 use borrow.Author.Needs.{needs}
-use Rattle.compiler.proofs.plain.motion.Statement.{statement}
-use Rattle.compiler.proofs.plain.motion.Tie as tie
+use Rattle.compiler.proofs.plain.emit_move.Statement.{statement}
+use Rattle.compiler.proofs.plain.emit_move.Tie as tie
 
 past-requires : tie.Need-past-requires
 past-requires c κs = search needs
@@ -81,8 +81,8 @@ returns-2 c =
       onward = step-onward d₀ (stepping-by (λ (v : ℕ). 64 + v) (λ _. 31) _ n₀ value) steps (n₀ .onward);
     }
 
-pub motion-spec : {M : Type 1} → statement M
-motion-spec =
+pub emit-move-spec : {M : Type 1} → statement M
+emit-move-spec =
     tie.close
     (tie.spec
     past-requires
