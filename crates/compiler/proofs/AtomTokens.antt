@@ -20,7 +20,7 @@ use Rattle.rule.specs.Tree.{SymbolName}
 use Rattle.rule.specs.Limits.{valueFrom, inForm}
 use Rattle.rule.specs.Grammar as Grammar
 use Rattle.rule.specs.Grammar.{Ts, IsSymbolName, IsAtom}
-use Rattle.rule.proofs.Within.{AtomWithin}
+use Rattle.rule.specs.Inside.Within.{AtomWithin}
 use Rattle.reader.specs.Atom.{
   Next,
   Case,

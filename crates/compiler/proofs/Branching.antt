@@ -17,7 +17,7 @@ use Rattle.rule.specs.Tree.{Statement, Arms}
 use Rattle.rule.specs.Grammar as Grammar
 use Rattle.rule.specs.Grammar.{Ts, IsArms, block}
 use Rattle.rule.proofs.Invert.{Branch, arms, statement-branch, Arm, lone, andMore, behind-also}
-use Rattle.rule.proofs.Within.{StatementWithin, ArmsWithin}
+use Rattle.rule.specs.Inside.Within.{StatementWithin, ArmsWithin}
 use Rattle.construction.specs.Construction.{free, Part, armPart, andThen, statementPart, statementsPart, armsPart}
 use Rattle.compiler.specs.Inside.Writing.{Sheet, Room, Writes}
 use Rattle.compiler.specs.Inside.Seeing.{SeenAs, Sees}

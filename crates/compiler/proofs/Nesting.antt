@@ -20,7 +20,7 @@ use Rattle.rule.specs.Tree.{Statement, Rest}
 use Rattle.rule.specs.Grammar.{Ts, IsRest, nothing, else, block}
 use Rattle.rule.proofs.Invert.{If, statement-if, While, statement-while}
 use Rattle.rule.proofs.Invert as Invert
-use Rattle.rule.proofs.Within.{StatementWithin, RestWithin}
+use Rattle.rule.specs.Inside.Within.{StatementWithin, RestWithin}
 use Rattle.construction.specs.Construction.{free, Part, test, ifPart, loopPart, andThen, statementPart, restPart, statementsPart}
 use Rattle.compiler.specs.Inside.Writing.{Sheet, Filled, Room, Writes}
 use Rattle.compiler.specs.Inside.Seeing.{Here, Behind, SeenAs, Sees, GoesPast}

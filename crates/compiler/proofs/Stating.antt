@@ -20,7 +20,7 @@ use Rattle.rule.specs.Tree.{Statement, Statements}
 use Rattle.rule.specs.Grammar as Grammar
 use Rattle.rule.specs.Grammar.{Ts, IsStatement, IsStatements}
 use Rattle.rule.proofs.Invert.{Stop, stops, statement-accept, statement-reject, If, While, Branch, rest-else, rest-also, Closed, closed, rest-brace}
-use Rattle.rule.proofs.Within.{StatementsWithin}
+use Rattle.rule.specs.Inside.Within.{StatementsWithin}
 use Rattle.construction.specs.Construction.{Part, andThen, statementPart, statementsPart}
 use Rattle.compiler.specs.Inside.Writing.{Sheet, Holds, Filled, Marks}
 use Rattle.compiler.specs.Inside.Seeing.{Here, SeenAs, Sees}

@@ -18,7 +18,7 @@ use Rattle.rule.specs.Tree as Tree
 use Rattle.rule.specs.Tree.{Plain, Statement}
 use Rattle.rule.specs.Grammar.{Ts, IsStatement}
 use Rattle.rule.proofs.Invert.{PlainOf, Move, forward, back, Goto, toLend, toRend, Change, up, down, upBy, downBy, statement-move, statement-goto, statement-change}
-use Rattle.rule.proofs.Within.{PlainWithin, StatementWithin}
+use Rattle.rule.specs.Inside.Within.{PlainWithin, StatementWithin}
 use Rattle.construction.specs.Construction.{moveCode, changeCode, Part, statementPart}
 use Rattle.compiler.specs.Inside.Writing.{Sheet, Filled, Room}
 use Rattle.compiler.specs.Inside.Seeing.{Here, Sees, GoesPast, Digits}

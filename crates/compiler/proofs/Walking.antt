@@ -20,7 +20,7 @@ use Rattle.text.specs.declared.Sign.the-variants as Sign
 use Rattle.table.specs.Table.{Row}
 use Rattle.rule.specs.Tree.{Atom, Condition}
 use Rattle.rule.specs.Grammar.{Ts, IsAtom, readIs, readIsNot, counterIs, counterIsNot, Binding, loosest, tightest, IsCondition, atom, parens, negation, tighter, both, tight, either}
-use Rattle.rule.proofs.Within.{AtomWithin, ConditionWithin}
+use Rattle.rule.specs.Inside.Within.{AtomWithin, ConditionWithin}
 use Rattle.construction.specs.Construction.{Part, atomRows, Added, walk, oneAfterOther, oneOrOther, test}
 use Rattle.compiler.specs.Inside.Writing.{Sheet, Filled, Room, Writes}
 use Rattle.compiler.specs.Inside.Seeing.{Here, SeenAs, Sees, GoesPast}

@@ -16,7 +16,7 @@ use Rattle.machine.specs.Step.{symbolFits, counterFits}
 use Rattle.rule.specs.Limits.{value}
 use Rattle.rule.specs.Tree.{Number, SymbolName, letter, lend, rend, Atom, readIs, readIsNot, counterIs, counterIsNot}
 use Rattle.rule.specs.Meaning.{reads, atomHolds}
-use Rattle.rule.proofs.Within.{SoughtWithin, AtomWithin}
+use Rattle.rule.specs.Inside.Within.{SoughtWithin, AtomWithin}
 use Rattle.construction.specs.Construction.{
   leftMark,
   rightMark,

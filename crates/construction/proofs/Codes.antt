@@ -48,16 +48,7 @@ use Rattle.rule.specs.Tree.{
   lastArm,
   moreArms,
 }
-use Rattle.rule.proofs.Within.{
-  SoughtWithin,
-  AtomWithin,
-  ConditionWithin,
-  PlainWithin,
-  StatementWithin,
-  RestWithin,
-  StatementsWithin,
-  ArmsWithin,
-}
+use Rattle.rule.specs.Inside.Within.{SoughtWithin, AtomWithin, ConditionWithin, PlainWithin, StatementWithin, RestWithin, StatementsWithin, ArmsWithin}
 use Rattle.construction.specs.Construction.{
   anySymbol,
   testRow,

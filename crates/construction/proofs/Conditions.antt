@@ -12,7 +12,7 @@ use Rattle.table.specs.Table.{Row}
 use Rattle.cells.specs.Cell.{last, moved}
 use Rattle.machine.specs.Step.{changed}
 use Rattle.rule.specs.Tree.{Atom, atom}
-use Rattle.rule.proofs.Within.{AtomWithin, ConditionWithin}
+use Rattle.rule.specs.Inside.Within.{AtomWithin, ConditionWithin}
 use Rattle.construction.specs.Construction.{atomRows, walk}
 use Rattle.construction.proofs.Every.{Every}
 use Rattle.construction.proofs.Own.{Own, start, taken}

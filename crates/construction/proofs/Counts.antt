@@ -41,7 +41,8 @@ use Rattle.rule.specs.Tree.{
   letterBytes,
 }
 use Rattle.rule.specs.Limits.{faults}
-use Rattle.rule.proofs.Within.{SoughtWithin, program-within, length-letterBytes}
+use Rattle.rule.proofs.Within.{program-within, length-letterBytes}
+use Rattle.rule.specs.Inside.Within.{SoughtWithin}
 use Rattle.construction.specs.Construction.{
   symbolRows,
   isNotRows,

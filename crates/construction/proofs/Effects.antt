@@ -30,7 +30,7 @@ use Rattle.rule.specs.Tree.{
 }
 use Rattle.rule.specs.Limits.{value}
 use Rattle.rule.specs.Meaning.{cellAfter, lowered, counterAfter}
-use Rattle.rule.proofs.Within.{PlainWithin, ConditionWithin}
+use Rattle.rule.specs.Inside.Within.{PlainWithin, ConditionWithin}
 use Rattle.construction.specs.Construction.{
   anySymbol,
   noMove,

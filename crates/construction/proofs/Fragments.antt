@@ -32,7 +32,7 @@ use Rattle.rule.specs.Tree.{
   moreArms,
 }
 use Rattle.rule.specs.Meaning.{_before_, otherwise}
-use Rattle.rule.proofs.Within.{StatementWithin, RestWithin, StatementsWithin}
+use Rattle.rule.specs.Inside.Within.{StatementWithin, RestWithin, StatementsWithin}
 use Rattle.construction.specs.Construction.{
   free,
   Added,

@@ -31,7 +31,7 @@ use Rattle.rule.specs.Tree.{
   lastArm,
   moreArms,
 }
-use Rattle.rule.proofs.Within.{SoughtWithin, AtomWithin, ConditionWithin, StatementWithin, RestWithin, StatementsWithin, ArmsWithin}
+use Rattle.rule.specs.Inside.Within.{SoughtWithin, AtomWithin, ConditionWithin, StatementWithin, RestWithin, StatementsWithin, ArmsWithin}
 
 -- a mark, or a letter of the alphabet
 unfoldable pub AtomSeeks : List ℕ → Atom → Type 0

@@ -26,7 +26,7 @@ use Rattle.rule.specs.Tree.{
   Program,
 }
 use Rattle.rule.specs.Meaning.{atomHolds, holds, Continues, does, continues, ProgramReach, goes}
-use Rattle.rule.proofs.Within.{AtomWithin, ConditionWithin, PlainWithin}
+use Rattle.rule.specs.Inside.Within.{AtomWithin, ConditionWithin, PlainWithin}
 use Rattle.construction.specs.Construction.{free, plainRow, atomRows, Added, Walk, oneAfterOther, oneOrOther, walk, test}
 use Rattle.construction.proofs.Every.{Every, every-append}
 use Rattle.construction.proofs.Effects.{plain-moves, plain-changes, Still}

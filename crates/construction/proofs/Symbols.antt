@@ -31,7 +31,7 @@ use Rattle.table.specs.Table.{Row}
 use Rattle.cells.specs.Cell as Cell
 use Rattle.cells.specs.Cell.{Symbol}
 use Rattle.rule.specs.Tree.{SymbolName, letter, lend, rend}
-use Rattle.rule.proofs.Within.{SoughtWithin}
+use Rattle.rule.specs.Inside.Within.{SoughtWithin}
 use Rattle.construction.specs.Construction.{
   leftMark,
   rightMark,

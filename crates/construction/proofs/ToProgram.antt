@@ -43,7 +43,7 @@ use Rattle.rule.specs.Meaning.{
   firstArm,
   otherArm,
 }
-use Rattle.rule.proofs.Within.{ConditionWithin, StatementWithin, RestWithin, StatementsWithin, ArmsWithin}
+use Rattle.rule.specs.Inside.Within.{ConditionWithin, StatementWithin, RestWithin, StatementsWithin, ArmsWithin}
 use Rattle.construction.specs.Construction.{
   free,
   Added,

@@ -52,7 +52,7 @@ use Rattle.rule.specs.Meaning.{
   ProgramReach,
   ProgramAccepts,
 }
-use Rattle.rule.proofs.Within.{ConditionWithin, PlainWithin, StatementWithin, RestWithin, StatementsWithin, ArmsWithin}
+use Rattle.rule.specs.Inside.Within.{ConditionWithin, PlainWithin, StatementWithin, RestWithin, StatementsWithin, ArmsWithin}
 use Rattle.construction.specs.Construction.{
   free,
   plainRow,

@@ -10,7 +10,7 @@ use lib.Seq.{drop-cons, length-take-le}
 use lib.Dec.{T, eqb, eqb-refl}
 use denote.Enum.Declared.{tagOf}
 use types.Run.{OneOf}
-use Rattle.bits.proofs.Tests.{sameList}
+use Rattle.bits.specs.Inside.Same.{sameList}
 use Rattle.text.specs.Token as Spelt
 use Rattle.text.specs.Token.{number, letter, sign, Spells, aSign}
 use Rattle.text.specs.First.{written, part, FirstToken}
@@ -19,9 +19,11 @@ use Rattle.text.specs.declared.Token.{Token}
 use Rattle.text.specs.declared.Token.the-variants as Token
 use Rattle.text.proofs.Token as token-type
 use Rattle.text.proofs.Runs.{T-true}
-use Rattle.text.proofs.Same.{sameToken, same-token}
+use Rattle.text.proofs.Same.{same-token}
+use Rattle.text.specs.Inside.Same.{sameToken}
 use Rattle.rule.specs.Inside.Class as Class
-use Rattle.rule.specs.Inside.Class.{Fixed, spell, Class, mark, other, tokenOf, classify, token-of-class, class-of-mark}
+use Rattle.rule.specs.Inside.Class.{Fixed, spell, Class, mark, other, tokenOf, classify}
+use Rattle.rule.proofs.Machine.Class.{token-of-class, class-of-mark}
 use Rattle.rule.specs.Inside.Machine.{exact, Stack, Totals, choices, pick}
 use Rattle.reader.specs.Atom.{refusalOf}
 use Rattle.reader.specs.Inside.Answers.{Front, spot, totals, Ready, Answers}

@@ -16,7 +16,8 @@ use Rattle.text.specs.declared.Word.the-variants as Word
 use Rattle.text.specs.declared.Sign.{Sign}
 use Rattle.text.specs.declared.Token.{Token}
 use Rattle.text.specs.declared.Token.the-variants as Token
-use Rattle.text.proofs.Same.{sameToken, same-token}
+use Rattle.text.proofs.Same.{same-token}
+use Rattle.text.specs.Inside.Same.{sameToken}
 use Rattle.text.proofs.Follow.{first-onward}
 use Rattle.rule.specs.Inside.Class as Class
 use Rattle.rule.specs.Inside.Class.{Fixed, spell, Class, mark, other, find, classify}

@@ -20,10 +20,12 @@ use Rattle.text.specs.declared.Token.the-variants as Token
 use Rattle.text.proofs.Sign as sign-type
 use Rattle.text.proofs.Word as word-type
 use Rattle.text.proofs.Token as token-type
-use Rattle.text.proofs.Same.{sameToken, same-token}
+use Rattle.text.proofs.Same.{same-token}
+use Rattle.text.specs.Inside.Same.{sameToken}
 use Rattle.text.proofs.Follow.{placeOf}
 use Rattle.rule.specs.Inside.Class as Class
-use Rattle.rule.specs.Inside.Class.{spell, Class, mark, other, tokenOf, classify, token-of-class}
+use Rattle.rule.specs.Inside.Class.{spell, Class, mark, other, tokenOf, classify}
+use Rattle.rule.proofs.Machine.Class.{token-of-class}
 use Rattle.rule.specs.Inside.Machine.{Expected, Stack, Totals, Move, Choice, on, onNumber, onLetter, choices, take, pick, run}
 use Rattle.reader.specs.Atom.{refusalOf}
 use Rattle.reader.specs.Inside.Answers.{spot, Stops, Answers}

@@ -7,7 +7,7 @@ use mathlib.Core.Option.{none, some}
 use mathlib.Core.List.{List, [], _∷_, _++_, append-assoc}
 use lib.ListN.{length, drop}
 use Rattle.text.specs.Tokens.{Placed, _at_, Ending, Tokens}
-use Rattle.text.proofs.Scan.{scanFrom}
+use Rattle.text.specs.Inside.Scan.{scanFrom}
 use Rattle.text.proofs.Tokens.{scanFrom-right, tokens-once}
 use Rattle.rule.specs.Inside.Class.{Class}
 use Rattle.rule.specs.Inside.Machine.{Expected, Stack, Value, Totals, Move, choices, pick, move}

@@ -18,10 +18,12 @@ use Rattle.text.specs.declared.Token.the-variants as Token
 use Rattle.text.proofs.Word as word-type
 use Rattle.text.proofs.Token as token-type
 use Rattle.text.proofs.Runs.{T-true}
-use Rattle.text.proofs.Same.{sameToken, same-token}
+use Rattle.text.proofs.Same.{same-token}
+use Rattle.text.specs.Inside.Same.{sameToken}
 use Rattle.text.proofs.Named.{word-is}
 use Rattle.rule.specs.Inside.Class as Class
-use Rattle.rule.specs.Inside.Class.{Fixed, spell, Class, mark, other, tokenOf, classify, token-of-class}
+use Rattle.rule.specs.Inside.Class.{Fixed, spell, Class, mark, other, tokenOf, classify}
+use Rattle.rule.proofs.Machine.Class.{token-of-class}
 use Rattle.rule.specs.Inside.Machine.{Expected, exact, distance, number, orElse, orAlso, statements, Stack, Totals, outside, choices, pick, move, run}
 use Rattle.rule.proofs.Machine.Steps.{run-stops, run-breaks, run-passes}
 use Rattle.rule.proofs.Machine.Follow.{unlike, notFirst, run-no-else, run-no-also}

@@ -28,7 +28,8 @@ use Rattle.rule.specs.Grammar.{Ts, IsSymbolName, IsAtom}
 use Rattle.rule.specs.Limits.{faultIf, isIn, symbolNameFaults, numberFaults, atomFaults}
 use Rattle.rule.proofs.Within.{kept}
 use Rattle.rule.specs.Inside.Class as Class
-use Rattle.rule.specs.Inside.Class.{Class, tokenOf, token-of-class}
+use Rattle.rule.specs.Inside.Class.{Class, tokenOf}
+use Rattle.rule.proofs.Machine.Class.{token-of-class}
 use Rattle.rule.specs.Inside.Machine.{Expected, number, operand, symbolName, Stack, Value, Totals, counted, Move, outside, choices, pick, move, refused, run}
 use Rattle.reader.specs.Atom.{refusalOf}
 use Rattle.reader.specs.Inside.Answers.{Front, spot, totals, Stops, Ready, Answers}

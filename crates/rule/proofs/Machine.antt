@@ -1,4 +1,5 @@
 -- Laws of the machine with a stack, which stands between the grammar and the readers; what follows of texts is beside this folder.
+pub mod Class
 pub mod Steps
 pub mod Trace
 pub mod Sound

@@ -19,7 +19,7 @@ use mathlib.Core.List.{
 }
 use Rattle.text.specs.Token.{Token}
 use Rattle.text.specs.Tokens.{Placed, _at_, Ending, ends, broken, TokensOf, Rising}
-use Rattle.text.proofs.Scan.{scan, Scanned}
+use Rattle.text.specs.Inside.Scan.{scan, Scanned}
 use Rattle.text.proofs.Tokens.{scan-right, tokens-scanned, tokens-once}
 use Rattle.text.proofs.Rising.{rising}
 use Rattle.rule.specs.Tree.{Program, letterBytes}

@@ -5,7 +5,8 @@ use mathlib.Core.Bool.{Bool, true, false}
 use mathlib.Core.Option.{Option, none, some}
 use mathlib.Core.List.{List, [], _∷_}
 use lib.Dec.{T, leb, eqb, leb→le, eqb→eq}
-use Rattle.bits.proofs.Tests.{sameList, same-list}
+use Rattle.bits.proofs.Tests.{same-list}
+use Rattle.bits.specs.Inside.Same.{sameList}
 
 infixl 10 _>>=_
 abbrev pub _>>=_ : {A B : Type 0} → Option A → (A → Option B) → Option B

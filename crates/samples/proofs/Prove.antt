@@ -16,7 +16,7 @@ use Rattle.table.specs.Refusal.{First}
 use Rattle.machine.specs.Run.{Reach}
 use Rattle.bits.specs.Size.{Size}
 use Rattle.text.specs.Tokens.{Placed, Ending, ends, broken, TokensOf}
-use Rattle.text.proofs.Scan.{scan}
+use Rattle.text.specs.Inside.Scan.{scan}
 use Rattle.text.proofs.Tokens.{scan-right}
 use Rattle.rule.specs.Tree.{Program}
 use Rattle.rule.specs.Grammar.{IsProgram}

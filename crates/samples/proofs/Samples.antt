@@ -3,7 +3,7 @@ use Rattle.bits.specs.Bit.{bit, withBit}
 use Rattle.table.specs.Image.{encode, field, twoBytes, rowBytes, rowsBytes, flag}
 use Rattle.cells.specs.Cell.{symbolOn, moved}
 use Rattle.machine.specs.Step.{symbolFits, counterFits, changed, rowFits}
-use Rattle.text.proofs.Scan.{scan}
+use Rattle.text.specs.Inside.Scan.{scan}
 use Rattle.rule.specs.Inside.Machine.{outcome}
 use Rattle.rule.proofs.Machine.Steps.{eat}
 use Rattle.rule.specs.Tree.{letterBytes}

@@ -11,7 +11,7 @@ use lib.Dec.{T, eqb, eqb→eq}
 use borrow.Author.Tests.{eqb-true}
 use Rattle.text.specs.Token.{Token, Spells}
 use Rattle.text.specs.Tokens.{lineFeed, slash, CommentEnds, atEnd, atLineFeed, Longest, NoToken, Blank, white, comment}
-use Rattle.text.proofs.Scan.{Sort, Kind, forToken, forWhite, forComment, kind, run, inComment, reach, made, Lexed, over, skip, found, bad, lexComment, lexToken, lexAs, lex}
+use Rattle.text.specs.Inside.Scan.{Sort, Kind, forToken, forWhite, forComment, kind, run, inComment, reach, made, Lexed, over, skip, found, bad, lexComment, lexToken, lexAs, lex}
 use Rattle.text.proofs.Runs.{stops, Ran, run-ran, run-is}
 use Rattle.text.proofs.Reach.{sortOf, kind-says, kind-white, spells-within, empty-no-token, reach-reads, reach-fits, spells-once}
 

@@ -1,6 +1,5 @@
 -- The tokens as a function of the bytes, and the laws of a text's tokens.
 pub mod Ending
-pub mod Scan
 pub mod Same
 pub mod Runs
 pub mod Reach

@@ -3,7 +3,8 @@ use Prim.Native.Nat.{ℕ}
 use mathlib.Core.Path.{_≡_, refl, sym, ap, _∙_}
 use mathlib.Core.Bool.{Bool, true, false, true≢false}
 use mathlib.Core.List.{List, [], _∷_}
-use Rattle.bits.proofs.Tests.{sameList, same-list}
+use Rattle.bits.proofs.Tests.{same-list}
+use Rattle.bits.specs.Inside.Same.{sameList}
 use Rattle.text.specs.First.{Name, reserved, unreserved, name, IsNamed, IsWord}
 use Rattle.text.specs.declared.Word.{Word}
 use Rattle.text.specs.declared.Word.the-variants as Word

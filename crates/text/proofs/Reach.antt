@@ -11,7 +11,7 @@ use borrow.Author.Tests.{lt-leb, ne-eqb}
 use Rattle.bits.specs.Byte.{isDigit, isLetter}
 use Rattle.text.specs.Token.{Token, word, number, letter, sign, Spells, aWord, aNumber, aLetter, aSign, beginsWord, inWord, signs, quote}
 use Rattle.text.specs.Tokens.{isWhite, slash, NoToken}
-use Rattle.text.proofs.Scan.{Sort, ofWord, ofNumber, ofLetter, ofSign, Kind, forToken, forWhite, forComment, sorted, kind, longestOf, letterReach, reach, made}
+use Rattle.text.specs.Inside.Scan.{Sort, ofWord, ofNumber, ofLetter, ofSign, Kind, forToken, forWhite, forComment, sorted, kind, longestOf, letterReach, reach, made}
 use Rattle.text.proofs.Runs.{T-true, true-T, T-both, T-either, run-ran, run-longest, longestOf-bound, longestOf-found, longestOf-fits}
 
 -- the sort of a token

@@ -10,7 +10,7 @@ use lib.ListN.{length, take, drop, getD, length-take, drop-of-length-le}
 use lib.Seq.{drop-cons}
 use lib.Dec.{T, eqb, eqb-refl, eqb→eq}
 use Rattle.text.specs.Token.{every}
-use Rattle.text.proofs.Scan.{run, starts, longestOf}
+use Rattle.text.specs.Inside.Scan.{run, starts, longestOf}
 
 -- a test that passes is true
 pub T-true : (b : Bool) → T b → b ≡ true

@@ -1,27 +1,9 @@
--- Whether two tokens are the same, by a test that computes.
+-- The test whether two tokens are the same is right.
 use mathlib.Core.Path.{_≡_, ap}
-use mathlib.Core.Bool.{Bool, false}
-use lib.Dec.{T, eqb, eqb→eq}
-use Rattle.bits.proofs.Tests.{sameList, same-list}
+use lib.Dec.{T, eqb→eq}
+use Rattle.bits.proofs.Tests.{same-list}
 use Rattle.text.specs.Token.{Token, word, number, letter, sign}
-
-abbrev pub sameToken : Token → Token → Bool
-sameToken (word a) (word b) = sameList a b
-sameToken (word a) (number b) = false
-sameToken (word a) (letter b) = false
-sameToken (word a) (sign b) = false
-sameToken (number a) (word b) = false
-sameToken (number a) (number b) = sameList a b
-sameToken (number a) (letter b) = false
-sameToken (number a) (sign b) = false
-sameToken (letter a) (word b) = false
-sameToken (letter a) (number b) = false
-sameToken (letter a) (letter b) = eqb a b
-sameToken (letter a) (sign b) = false
-sameToken (sign a) (word b) = false
-sameToken (sign a) (number b) = false
-sameToken (sign a) (letter b) = false
-sameToken (sign a) (sign b) = sameList a b
+use Rattle.text.specs.Inside.Same.{sameToken}
 
 pub same-token : (t u : Token) → T (sameToken t u) → t ≡ u
 same-token (word a) (word b) t = ap word (same-list a b t)

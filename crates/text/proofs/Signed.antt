@@ -8,12 +8,13 @@ use mathlib.Core.List.{List, [], _∷_, List·Memᴰ, List·Memᴰ·head, List·
 use lib.ListN.{length, take, getD}
 use lib.Seq.{length-take-le}
 use lib.Dec.{T, eqb, leb, leb→le}
-use Rattle.bits.proofs.Tests.{sameList, same-list, every-at}
+use Rattle.bits.proofs.Tests.{same-list, every-at}
+use Rattle.bits.specs.Inside.Same.{sameList}
 use Rattle.text.specs.Token.{signs}
 use Rattle.text.specs.First.{written}
 use Rattle.text.specs.declared.Sign.{Sign}
 use Rattle.text.specs.declared.Sign.the-variants as Sign
-use Rattle.text.proofs.Scan.{longestOf}
+use Rattle.text.specs.Inside.Scan.{longestOf}
 use Rattle.text.proofs.Runs.{T-either, longestOf-bound, longestOf-found, longestOf-fits}
 
 -- tests of lists of one byte, and of two

@@ -7,7 +7,7 @@ use lib.ListN.{length, drop, length-drop}
 use lib.Seq.{length-take-le}
 use Rattle.text.specs.Token.{Token}
 use Rattle.text.specs.Tokens.{Placed, _at_, Ending, Blank, white, comment, Tokens, end, blank, token, none, TokensOf}
-use Rattle.text.proofs.Scan.{Lexed, over, skip, found, bad, lex, Scanned, before, step, scanFrom, scan}
+use Rattle.text.specs.Inside.Scan.{Lexed, over, skip, found, bad, lex, Scanned, before, step, scanFrom, scan}
 use Rattle.text.proofs.Front.{Found, InFront, lex-right, lex-is, blank-lex, longest-found}
 use Rattle.text.proofs.Reach.{empty-no-token}
 use Rattle.text.proofs.Ending.{blank-length, longest-length}

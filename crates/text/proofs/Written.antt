@@ -20,7 +20,8 @@ use mathlib.Core.List.{
 use lib.ListN.{length, length-append}
 use lib.Dec.{T, eqb}
 use Rattle.bits.specs.Byte.{isDigit, isLetter}
-use Rattle.bits.proofs.Tests.{and-left, and-right, or-cases, sameList, same-list, every-at}
+use Rattle.bits.proofs.Tests.{and-left, and-right, or-cases, same-list, every-at}
+use Rattle.bits.specs.Inside.Same.{sameList}
 use Rattle.text.specs.Token.{Token, word, number, letter, sign, beginsWord, inWord, every, signs, quote, Spells, aWord, aNumber, aLetter, aSign}
 use Rattle.text.specs.Tokens.{
   Placed,

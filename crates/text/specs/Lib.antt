@@ -2,3 +2,4 @@
 pub mod Token
 pub mod Tokens
 pub mod First
+pub mod Inside

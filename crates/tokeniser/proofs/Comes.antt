@@ -14,7 +14,7 @@ use Rattle.tokeniser.specs.declared.steps.Step.{Step}
 use Rattle.tokeniser.specs.declared.steps.Step.the-variants as Step
 use Rattle.text.specs.declared.Token.{Token}
 use Rattle.text.specs.declared.Token.the-variants as Token
-use Rattle.text.proofs.Scan.{scanFrom}
+use Rattle.text.specs.Inside.Scan.{scanFrom}
 use Rattle.text.proofs.Front.{Found, Bad}
 use Rattle.text.proofs.Tokens.{found-then, scanFrom-right}
 

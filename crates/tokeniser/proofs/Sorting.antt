@@ -19,8 +19,8 @@ use Rattle.tokeniser.specs.Inside.Tokenising.{begins, sorted, kindOf}
 use Rattle.tokeniser.specs.declared.kinds.Kind.{Kind}
 use Rattle.tokeniser.specs.declared.kinds.Kind.the-variants.{Digit, Alphabetic, Underscore, Quote, White, Slash, Sign, Other}
 use Rattle.tokeniser.proofs.kinds.Kind.{the-type}
-use Rattle.text.proofs.Scan as Scan
-use Rattle.text.proofs.Scan.{forToken, forWhite, forComment, ofWord, ofNumber, ofLetter, ofSign}
+use Rattle.text.specs.Inside.Scan as Scan
+use Rattle.text.specs.Inside.Scan.{forToken, forWhite, forComment, ofWord, ofNumber, ofLetter, ofSign}
 use Rattle.text.proofs.Reach.{kind-says, digit-no-word}
 use Rattle.text.proofs.Runs.{T-true, T-false, T-both, T-either}
 

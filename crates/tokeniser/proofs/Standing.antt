@@ -22,7 +22,7 @@ use Rattle.text.specs.declared.Sign.{Sign}
 use Rattle.tokeniser.specs.declared.signs.Found.{Found}
 use Rattle.tokeniser.specs.declared.signs.Found.the-variants as Found
 use Rattle.tokeniser.specs.declared.kinds.Kind.the-variants as Kinds
-use Rattle.text.proofs.Scan.{Sort, ofLetter, ofSign, Kind, forToken, forComment, kind, run, letterReach, reach, made, skip, bad, lexComment, lexToken, lexAs, lex}
+use Rattle.text.specs.Inside.Scan.{Sort, ofLetter, ofSign, Kind, forToken, forComment, kind, run, letterReach, reach, made, skip, bad, lexComment, lexToken, lexAs, lex}
 use Rattle.text.proofs.Runs.{run-on, run-off, run-out}
 use Rattle.text.proofs.Reach.{kind-word, kind-number, kind-white}
 use Rattle.tokeniser.proofs.Sorting.{kind-sorted, no-begin}

@@ -22,7 +22,7 @@ use Rattle.rule.specs.Grammar.{
   IsBlock,
   IsStatements,
 }
-use Rattle.rule.proofs.Within.{AtomWithin, ConditionWithin, StatementWithin, RestWithin, StatementsWithin, ArmsWithin}
+use Rattle.rule.specs.Inside.Within.{AtomWithin, ConditionWithin, StatementWithin, RestWithin, StatementsWithin, ArmsWithin}
 use Rattle.construction.specs.Construction.{
   anySymbol,
   eitherCounter,

@@ -8,7 +8,7 @@ use Rattle.text.specs.Token.{Token, s}
 use Rattle.text.specs.Tokens.{Placed, _at_}
 use Rattle.text.specs.declared.Sign.{Sign}
 use Rattle.text.specs.declared.Sign.the-variants as Sign
-use Rattle.text.proofs.Same.{sameToken}
+use Rattle.text.specs.Inside.Same.{sameToken}
 use Rattle.compiler.specs.Inside.Seeing.{Here}
 use Rattle.compiler.specs.declared.ahead.Looked.{Looked}
 use Rattle.compiler.specs.declared.ahead.Looked.the-variants.{Answer, On}

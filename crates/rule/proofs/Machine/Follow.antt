@@ -7,7 +7,7 @@ use mathlib.Core.List.{List, [], _∷_, map}
 use lib.Dec.{T}
 use Rattle.text.specs.Token.{Token}
 use Rattle.text.specs.Tokens.{_at_, Ending, ends, broken}
-use Rattle.text.proofs.Same.{sameToken}
+use Rattle.text.specs.Inside.Same.{sameToken}
 use Rattle.rule.specs.Tree as Tree
 use Rattle.rule.specs.Tree.{Program}
 use Rattle.rule.specs.Inside.Class.{Fixed, spell, Class, mark, number, letter, other, classify}

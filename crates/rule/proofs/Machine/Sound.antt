@@ -8,12 +8,14 @@ use lib.Dec.{T}
 use Rattle.text.specs.Token as Token
 use Rattle.text.specs.Token.{Token, w, s}
 use Rattle.text.specs.Tokens.{_at_}
-use Rattle.text.proofs.Same.{sameToken, same-token}
+use Rattle.text.proofs.Same.{same-token}
+use Rattle.text.specs.Inside.Same.{sameToken}
 use Rattle.rule.specs.Tree as Tree
 use Rattle.rule.specs.Tree.{Number, Letter, Condition, Plain, Statement, Rest, Statements, Order, Program, _then_}
 use Rattle.rule.specs.Grammar as Grammar
 use Rattle.rule.specs.Grammar.{IsSymbolName, IsAtom, loosest, middle, tightest, IsCondition, IsPlain, IsStatement, IsRest, IsArms, IsBlock, IsStatements, IsLetters, IsAlphabet, IsDecrement, IsSettings, IsProgram}
-use Rattle.rule.specs.Inside.Class.{Fixed, spell, Class, mark, number, letter, other, tokenOf, classify, token-of-class}
+use Rattle.rule.specs.Inside.Class.{Fixed, spell, Class, mark, number, letter, other, tokenOf, classify}
+use Rattle.rule.proofs.Machine.Class.{token-of-class}
 use Rattle.rule.specs.Inside.Machine as Machine
 use Rattle.rule.specs.Inside.Machine.{Expected, Stack, Value, Values, Totals, Move, Choice, on, onNumber, onLetter, along, alongChoice, also, statementChoices, choices, take, pick, move}
 use Rattle.rule.proofs.Machine.Steps.{Ts, Is, is, Far, State, state, begin, follow, eat, _>>=_}

@@ -6,9 +6,10 @@ use mathlib.Core.List.{List, [], _∷_, _++_}
 use Rattle.text.specs.Token as Token
 use Rattle.text.specs.Token.{Token, w, s}
 use Rattle.text.proofs.Runs.{T-true}
-use Rattle.text.proofs.Same.{sameToken}
+use Rattle.text.specs.Inside.Same.{sameToken}
 use Rattle.rule.specs.Tree.{Program}
-use Rattle.rule.specs.Inside.Class.{Fixed, spell, classify, class-of-mark, same-self}
+use Rattle.rule.specs.Inside.Class.{Fixed, spell, classify}
+use Rattle.rule.proofs.Machine.Class.{class-of-mark, same-self}
 use Rattle.rule.specs.Inside.Machine as Machine
 use Rattle.rule.specs.Inside.Machine.{Expected, Stack, Values, Move, on, pick}
 use Rattle.rule.proofs.Machine.Steps.{Far, state, eat}

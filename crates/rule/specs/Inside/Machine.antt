@@ -7,8 +7,8 @@ use mathlib.Core.List.{List, [], _∷_, _++_, map}
 use lib.ListN.{length}
 use lib.Dec.{leb}
 use Rattle.text.specs.Tokens.{Placed, _at_, Ending, ends, broken}
-use Rattle.text.proofs.Scan.{scan}
-use Rattle.text.proofs.Same.{sameToken}
+use Rattle.text.specs.Inside.Scan.{scan}
+use Rattle.text.specs.Inside.Same.{sameToken}
 use Rattle.rule.specs.Tree as Tree
 use Rattle.rule.specs.Tree.{Number, Letter, SymbolName, Atom, Condition, Plain, Statement, Rest, Statements, Arms, Program, done, _then_}
 use Rattle.rule.specs.Limits.{isIn, inForm, valueFrom}

@@ -1,4 +1,5 @@
--- The tokeniser as a function that computes: what stands at the front of the bytes, and with that all the tokens of a text.
+-- The tokeniser as a function that computes: what stands at the front of the bytes, and with that all the tokens of a text. No public promise
+-- reaches it: the laws say that it finds what `Tokens` defines.
 use Prim.Native.Nat.{ℕ, zero, suc, _+_, max}
 use mathlib.Core.Bool.{Bool, true, false, not, cond, _&&_}
 use mathlib.Core.List.{List, [], _∷_}
