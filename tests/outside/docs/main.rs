@@ -1,7 +1,7 @@
 //! What the pages name is there, and what must be on them is. From the pages to the crates: each definition and theorem that a
 //! page names is declared in the file that it says, and each edit, function or law that docs/PROMISES.md writes in backquotes is
 //! declared somewhere. From the crates to the pages: docs/DEFINITIONS.md has each definition that a public promise reaches, and
-//! docs/PROMISES.md each public function and each must-fail edit.
+//! docs/PROMISES.md each public function and each must-fail edit; and specs/ holds what public promises reach, specs/Inside the rest.
 
 use std::collections::{BTreeMap, BTreeSet};
 use std::fs;
@@ -306,6 +306,21 @@ fn main() {
         cases += 1;
         if !defined.contains(&(path.clone(), name.clone())) {
             faults.push(format!("docs/DEFINITIONS.md does not name {path}: {name}, which a public promise reaches"));
+        }
+    }
+
+    // what a reader must believe, and what only functions say of each other, stand apart; the definitions of `whole` and `samples`
+    // are reached by theorems
+    for (path, file) in files.iter().filter(|(path, _)| path.contains("/specs/")) {
+        let inside = path.contains("/specs/Inside");
+        let by_theorems = path.starts_with("whole/") || path.starts_with("samples/");
+        for name in file.words.keys().filter(|name| !name.is_empty()) {
+            cases += 1;
+            match (inside, reached.contains(&(path.clone(), name.clone()))) {
+                (true, true) => faults.push(format!("{path}: {name} stands inside, and a public promise reaches it")),
+                (false, false) if !by_theorems => faults.push(format!("{path}: {name} is reached by no public promise, and stands not inside")),
+                _ => {}
+            }
         }
     }
 
