@@ -19,7 +19,7 @@ use Rattle.construction.specs.Construction.{withBits, indexIn}
 use Rattle.construction.specs.Compile.{imageRoom}
 use Rattle.bits.specs.Inside.Over.{over}
 use Rattle.compiler.specs.Inside.Writing.{Sheet, front, acceptBytes, written, rowPlace, Holds, Filled, Room, Writes, Marks, Heads, Counts}
-use Rattle.construction.proofs.SetBit.{new, length-accept}
+use Rattle.construction.proofs.SetBit.{length-accept}
 
 regroup : (a b c d : List ℕ) → (a ++ (b ++ c)) ++ d ≡ a ++ (b ++ (c ++ d))
 regroup a b c d = simp append-assoc

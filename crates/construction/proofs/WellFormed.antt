@@ -17,7 +17,8 @@ use Rattle.construction.proofs.Every.{Every, every-nil}
 use Rattle.construction.proofs.Own.{Own, own-below, Laid}
 use Rattle.construction.proofs.Parts.{statements-series}
 use Rattle.construction.proofs.Codes.{Fine, statements-fine}
-use Rattle.construction.proofs.SetBit.{bits-in, bits-only, bits-zero, length-withBits, bytes-withBits, bytes-zeros}
+use Rattle.construction.proofs.SetBit.{bits-in, bits-only, bits-zero, length-withBits, bytes-withBits}
+use Rattle.bits.proofs.Change.{bytes-zeros}
 
 -- where a program's rows start and where it accepts
 pub program-laid :
