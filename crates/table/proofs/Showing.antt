@@ -1,17 +1,19 @@
 -- Laws of a source: the place of each row that it shows, and that an image shows its rows.
 use Prim.Native.Nat.{ℕ, zero, suc, _+_, _≤_, _<_}
-use native.Mathlib.Numerals.{add-one}
+use native.Mathlib.Nat.{le-of-eq}
 use native.Mathlib.Omega.{arith}
 use mathlib.Core.Path.{_≡_, refl, sym, ap, _∙_, subst}
 use mathlib.Core.List.{List, List·Memᴰ}
 use lib.ListN.{length}
 use Rattle.table.specs.Form.{rowsPlace, wide}
-use Rattle.table.specs.Table.{Row}
+use Rattle.table.specs.Table.{Row, Table}
+use Rattle.table.specs.WellFormed.{IsImage}
 use Rattle.table.specs.Fields.{lettersOf, widthOf, rowPlace, rowFrom, rowOf, rowCount, tableOf}
-use Rattle.table.specs.Source.{rangeOf, placeIn, rowIn, Shows}
+use Rattle.table.specs.Source.{rangeOf, placeIn, rowIn, Shows, Sources}
 use Rattle.table.specs.declared.source.Range.{Range}
 use Rattle.table.specs.declared.source.Source.{Source}
 use Rattle.table.specs.declared.source.Source.the-variants.{Image}
+use Rattle.table.proofs.Encoded.{image-tail}
 use Rattle.table.proofs.RowList.{place-first, place-next, place-inside, rows-in, rows-number}
 
 -- the first place, and each next one
@@ -48,7 +50,7 @@ module _ (image : List ℕ) (state : ℕ) where
   image-apart = refl
 
   -- an image whose rows all stand in it shows them
-  pub image-shows : rowPlace image (rowCount image) ≤ length image → Shows (tableOf image) image state (rangeOf Image image state)
+  image-shows : rowPlace image (rowCount image) ≤ length image → Shows (tableOf image) image state (rangeOf Image image state)
   image-shows long = record {
     every = λ r m here.
         let found = rows-number image m in
@@ -56,3 +58,7 @@ module _ (image : List ℕ) (state : ℕ) where
     only = λ j low here. subst (λ (r : Row). List·Memᴰ r (tableOf image .rows)) (sym (image-row j)) (rows-in image j (rw image-many at low));
     inside = λ j low. omega (arith, image-place j, image-apart, image-many, place-inside image {i = j} {n = rowCount image} (rw image-many at low), long);
   }
+
+-- a well-formed image is a source of its table's rows
+pub image-sources : {t : Table} {image : List ℕ} → IsImage t image → Sources (tableOf image) Image image
+image-sources {image = image} is = record { shows = λ state low. image-shows image state (le-of-eq (sym (image-tail is .end))) }

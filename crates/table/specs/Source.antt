@@ -32,3 +32,7 @@ pub record Shows (t : Table) (rows : List ℕ) (state : ℕ) (range : Range) : T
   pub only : (j : ℕ) → j < range .many → rowIn rows range j .from ≡ state → List·Memᴰ (rowIn rows range j) (t .rows)
   -- and stands in the bytes
   pub inside : (j : ℕ) → j < range .many → placeIn range j + range .apart ≤ length rows
+
+-- and it holds for every state: 128 is as many as a table has
+pub record Sources (t : Table) (source : Source) (rows : List ℕ) : Type 0 where
+  pub shows : (state : ℕ) → state < 128 → Shows t rows state (rangeOf source rows state)

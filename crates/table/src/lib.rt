@@ -4,7 +4,9 @@ pub mod form; // form.rt: the places of the fields, and the codes in a row
 pub mod source; // source.rt: where a search finds the rows that leave a state
 
 ghost use mathlib.Core.Path.{_≡_};
-ghost use Prim.Native.Nat.{_-_};
+ghost use Prim.Native.Nat.{_+_, _*_, _-_, _≤_};
+ghost use lib.ListN.{length};
+ghost use lib.Dec.{eqb};
 ghost use Rattle.bits.specs.Bit.{bit};
 ghost use Rattle.table.specs.Table.{Row};
 ghost use Rattle.table.specs.Form.{rowsPlace, wide, bytesOf};
@@ -21,21 +23,27 @@ pub struct Row {
     pub to: usize,
 }
 
-// One less, or 0.
-fn less(n: usize) -> usize
-    ensures { λ r. ⌜ r ≡ n - 1 ⌝ }
+// So much less, or 0.
+fn less(n: usize, by: usize) -> usize
+    ensures { λ r. ⌜ r ≡ n - by ⌝ }
 {
-    if n == 0 { 0 } else { n - 1 }
+    if n < by { 0 } else { n - by }
+}
+
+fn two(high: u8, low: u8) -> usize
+    ensures { λ r. ⌜ r ≡ high * 256 + low ⌝ }
+{
+    (high as usize) * 256 + low as usize
 }
 
 // The two-byte number that starts here, high byte first.
 fn two_at(image: &[u8], at: usize) -> usize
     ensures { λ r. ⌜ r ≡ twoAt (now (image .entry)) at ⌝ }
 {
-    if at < less(image.len()) {
-        (image[at] as usize) * 256 + image[at + 1] as usize
+    if at < less(image.len(), 1) {
+        two(image[at], image[at + 1])
     } else {
-        (bits::byte_at(image, at) as usize) * 256
+        two(bits::byte_at(image, at), 0)
     }
 }
 
@@ -133,15 +141,34 @@ fn row_place(image: &[u8], i: usize) -> usize
     }
 }
 
-// The state that the row leaves whose bytes start here.
-pub fn from_here(rows: &[u8], at: usize) -> usize
-    ensures { λ r. ⌜ r ≡ rowFrom (now (rows .entry)) at .from ⌝ }
+// Whether the row whose bytes start here leaves a state. A search asks this of every row, so it reads no more than that.
+pub fn leaves(rows: &[u8], at: usize, state: usize) -> bool
+    ensures { λ r. ⌜ r ≡ eqb (rowFrom (now (rows .entry)) at .from) state ⌝ }
 {
-    two_at(rows, at)
+    if at < less(rows.len(), 1) {
+        two(rows[at], rows[at + 1]) == state
+    } else {
+        two(bits::byte_at(rows, at), 0) == state
+    }
 }
 
-// The row whose bytes start here. Past the end it is all 0, and where its bytes would stand need not fit a number.
-pub fn row_here(rows: &[u8], at: usize) -> Row
+// The row whose bytes start here, where they all stand.
+fn whole_row(rows: &[u8], at: usize) -> Row
+    requires { ⌜ at + 8 ≤ length (now rows) ⌝ }
+    ensures { λ r. ⌜ rowIs r ≡ rowFrom (now (rows .entry)) at ⌝ }
+{
+    Row {
+        from: two(rows[at], rows[at + 1]),
+        symbol: rows[at + 2],
+        test: rows[at + 3],
+        motion: rows[at + 4],
+        change: rows[at + 5],
+        to: two(rows[at + 6], rows[at + 7]),
+    }
+}
+
+// The row whose bytes start here, where some are past the end: those are 0, and where they would stand need not fit a number.
+fn cut_row(rows: &[u8], at: usize) -> Row
     ensures { λ r. ⌜ rowIs r ≡ rowFrom (now (rows .entry)) at ⌝ }
 {
     if at < rows.len() {
@@ -165,11 +192,22 @@ pub fn row_here(rows: &[u8], at: usize) -> Row
     }
 }
 
+// The row whose bytes start here; a byte past the end is 0.
+pub fn row_here(rows: &[u8], at: usize) -> Row
+    ensures { λ r. ⌜ rowIs r ≡ rowFrom (now (rows .entry)) at ⌝ }
+{
+    if at < less(rows.len(), 7) {
+        whole_row(rows, at)
+    } else {
+        cut_row(rows, at)
+    }
+}
+
 // The state that row i leaves.
 pub fn row_from(image: &[u8], i: usize) -> usize
     ensures { λ r. ⌜ r ≡ rowOf (now (image .entry)) i .from ⌝ }
 {
-    from_here(image, row_place(image, i))
+    two_at(image, row_place(image, i))
 }
 
 // Row i.

@@ -2,8 +2,8 @@
 use mathlib.Core.Path.{sym}
 use Rattle.table.proofs.Reading.{row-is, here-past}
 use borrow.Author.Needs.{needs}
-use Rattle.table.proofs.row_here.Statement.{statement}
-use Rattle.table.proofs.row_here.Tie as tie
+use Rattle.table.proofs.cut_row.Statement.{statement}
+use Rattle.table.proofs.cut_row.Tie as tie
 
 two-at-requires : tie.Need-two-at-requires
 two-at-requires c κs = search needs
@@ -54,8 +54,8 @@ returns c =
 returns-2 : tie.Need-returns-2
 returns-2 c = sym (here-past _ _ (c .if1 .left))
 
-pub row-here-spec : {M : Type 1} → statement M
-row-here-spec =
+pub cut-row-spec : {M : Type 1} → statement M
+cut-row-spec =
     tie.close
     (tie.spec
     two-at-requires

@@ -1,0 +1,52 @@
+-- The first two bytes of a row, as a number, compared. Assumes nothing.
+use native.Mathlib.Omega.{arith}
+use Rattle.table.proofs.Reading.{two-past, leaves-is}
+use borrow.Author.Needs.{needs}
+use Rattle.table.proofs.leaves.Statement.{statement}
+use Rattle.table.proofs.leaves.Tie as tie
+
+less-requires : tie.Need-less-requires
+less-requires c κs = search needs
+
+shared-slice-read-two : tie.Need-shared-slice-read-two
+shared-slice-read-two c = search needs
+
+add-two : tie.Need-add-two
+add-two c = search needs
+
+shared-slice-read-two-2 : tie.Need-shared-slice-read-two-2
+shared-slice-read-two-2 c = search needs
+
+two-requires : tie.Need-two-requires
+two-requires c κs = search needs
+
+byte-at-requires : tie.Need-byte-at-requires
+byte-at-requires c κs = search needs
+
+two-requires-2 : tie.Need-two-requires-2
+two-requires-2 c κs = search needs
+
+returns : tie.Need-returns
+returns c = 
+    let a = c .before .before .before .before .before .before .args in
+    leaves-is (a .rows .now) (a .at) (a .state) _ (c .two .ensures)
+
+returns-2 : tie.Need-returns-2
+returns-2 c = 
+    let a = c .before .before .before .before .before .args in
+    leaves-is (a .rows .now) (a .at) (a .state) _
+    (two-past (a .rows .now) (a .at) _ _ (omega (arith, c .before .before .before .less .ensures, c .before .before .if1 .left)) (c .before .byte-at .ensures) (c .two2 .ensures))
+
+pub leaves-spec : {M : Type 1} → statement M
+leaves-spec =
+    tie.close
+    (tie.spec
+    less-requires
+    shared-slice-read-two
+    add-two
+    shared-slice-read-two-2
+    two-requires
+    byte-at-requires
+    two-requires-2
+    returns
+    returns-2)
