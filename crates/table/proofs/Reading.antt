@@ -81,9 +81,6 @@ module _ (image : List ℕ) where
   unfolding rowFrom
   from-here at = refl
 
-  pub leaves-is : (at state n : ℕ) → n ≡ twoAt image at → eqb n state ≡ eqb (rowFrom image at .from) state
-  leaves-is at state n e = ap (λ (m : ℕ). eqb m state) (e ∙ from-here at)
-
   -- where row i is read: where it stands, and past the end at the end
   pub place-inside : (first i : ℕ) → first ≡ rowsPlace (lettersOf image) → first + i * 8 ≡ rowPlace image i
   unfolding rowPlace bytesOf widthFor

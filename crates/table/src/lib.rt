@@ -4,7 +4,7 @@ pub mod form; // form.rt: the places of the fields, and the codes in a row
 pub mod source; // source.rt: where a search finds the rows that leave a state
 
 ghost use mathlib.Core.Path.{_≡_};
-ghost use Prim.Native.Nat.{_+_, _*_, _-_, _≤_};
+ghost use Prim.Native.Nat.{_+_, _*_, _-_, _^_, _≤_, _<_};
 ghost use lib.ListN.{length};
 ghost use lib.Dec.{eqb};
 ghost use Rattle.bits.specs.Bit.{bit};
@@ -38,10 +38,12 @@ fn two(high: u8, low: u8) -> usize
 
 // The two-byte number that starts here, high byte first.
 fn two_at(image: &[u8], at: usize) -> usize
+    requires { ⌜ at + 1 < 2 ^ 64 ⌝ }
     ensures { λ r. ⌜ r ≡ twoAt (now (image .entry)) at ⌝ }
 {
-    if at < less(image.len(), 1) {
-        two(image[at], image[at + 1])
+    let next = at + 1;
+    if next < image.len() {
+        two(image[at], image[next])
     } else {
         two(bits::byte_at(image, at), 0)
     }
@@ -141,14 +143,25 @@ fn row_place(image: &[u8], i: usize) -> usize
     }
 }
 
-// Whether the row whose bytes start here leaves a state. A search asks this of every row, so it reads no more than that.
+// The state that the row leaves whose bytes start here. Where they would stand past the end need not fit a number.
+fn from_here(rows: &[u8], at: usize) -> usize
+    ensures { λ r. ⌜ r ≡ rowFrom (now (rows .entry)) at .from ⌝ }
+{
+    if at < rows.len() {
+        two_at(rows, at)
+    } else {
+        0
+    }
+}
+
+// Whether the row whose bytes start here leaves a state. A search asks this of every row that it is shown, so it reads no more than that.
 pub fn leaves(rows: &[u8], at: usize, state: usize) -> bool
     ensures { λ r. ⌜ r ≡ eqb (rowFrom (now (rows .entry)) at .from) state ⌝ }
 {
-    if at < less(rows.len(), 1) {
+    if at < less(rows.len(), 7) {
         two(rows[at], rows[at + 1]) == state
     } else {
-        two(bits::byte_at(rows, at), 0) == state
+        from_here(rows, at) == state
     }
 }
 
@@ -167,7 +180,7 @@ fn whole_row(rows: &[u8], at: usize) -> Row
     }
 }
 
-// The row whose bytes start here, where some are past the end: those are 0, and where they would stand need not fit a number.
+// The row whose bytes start here, where some may be past the end: those are 0.
 fn cut_row(rows: &[u8], at: usize) -> Row
     ensures { λ r. ⌜ rowIs r ≡ rowFrom (now (rows .entry)) at ⌝ }
 {
@@ -207,12 +220,12 @@ pub fn row_here(rows: &[u8], at: usize) -> Row
 pub fn row_from(image: &[u8], i: usize) -> usize
     ensures { λ r. ⌜ r ≡ rowOf (now (image .entry)) i .from ⌝ }
 {
-    two_at(image, row_place(image, i))
+    from_here(image, row_place(image, i))
 }
 
 // Row i.
 pub fn row_at(image: &[u8], i: usize) -> Row
     ensures { λ r. ⌜ rowIs r ≡ rowOf (now (image .entry)) i ⌝ }
 {
-    row_here(image, row_place(image, i))
+    cut_row(image, row_place(image, i))
 }

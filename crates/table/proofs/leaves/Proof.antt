@@ -1,6 +1,8 @@
--- The first two bytes of a row, as a number, compared. Assumes nothing.
-use native.Mathlib.Omega.{arith}
-use Rattle.table.proofs.Reading.{two-past, leaves-is}
+-- The state that a row leaves, compared. Assumes nothing.
+use Prim.Native.Nat.{ℕ}
+use mathlib.Core.Path.{ap, _∙_}
+use lib.Dec.{eqb}
+use Rattle.table.proofs.Reading.{from-here}
 use borrow.Author.Needs.{needs}
 use Rattle.table.proofs.leaves.Statement.{statement}
 use Rattle.table.proofs.leaves.Tie as tie
@@ -20,22 +22,16 @@ shared-slice-read-two-2 c = search needs
 two-requires : tie.Need-two-requires
 two-requires c κs = search needs
 
-byte-at-requires : tie.Need-byte-at-requires
-byte-at-requires c κs = search needs
-
-two-requires-2 : tie.Need-two-requires-2
-two-requires-2 c κs = search needs
+from-here-requires : tie.Need-from-here-requires
+from-here-requires c κs = search needs
 
 returns : tie.Need-returns
 returns c = 
     let a = c .before .before .before .before .before .before .args in
-    leaves-is (a .rows .now) (a .at) (a .state) _ (c .two .ensures)
+    ap (λ (n : ℕ). eqb n (a .state)) (c .two .ensures ∙ from-here (a .rows .now) (a .at))
 
 returns-2 : tie.Need-returns-2
-returns-2 c = 
-    let a = c .before .before .before .before .before .args in
-    leaves-is (a .rows .now) (a .at) (a .state) _
-    (two-past (a .rows .now) (a .at) _ _ (omega (arith, c .before .before .before .less .ensures, c .before .before .if1 .left)) (c .before .byte-at .ensures) (c .two2 .ensures))
+returns-2 c = ap (λ (n : ℕ). eqb n (c .before .before .before .before .args .state)) (c .from-here .ensures)
 
 pub leaves-spec : {M : Type 1} → statement M
 leaves-spec =
@@ -46,7 +42,6 @@ leaves-spec =
     add-two
     shared-slice-read-two-2
     two-requires
-    byte-at-requires
-    two-requires-2
+    from-here-requires
     returns
     returns-2)
