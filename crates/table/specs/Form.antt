@@ -90,6 +90,10 @@ rowsPlace letters = letters + 38
 abbrev pub firstEdition : ℕ
 firstEdition = 1
 
+-- The bytes of a row's own numbers
+abbrev pub rowWidth : ℕ
+rowWidth = 8
+
 -- How many bytes a row takes. It is shut: what stands outside knows the laws of `proofs/Width.antt`, each proved once for every width, so
 -- that no product of two unknown numbers shows.
 pub data Width : Type 0 where
@@ -97,15 +101,15 @@ pub data Width : Type 0 where
 
 -- the bytes of a row
 unfoldable pub wide : Width → ℕ
-wide eight = 8
+wide eight = rowWidth
 
 -- the bytes of so many rows
 unfoldable pub bytesOf : Width → ℕ → ℕ
-bytesOf eight n = n * 8
+bytesOf eight n = n * rowWidth
 
 -- how many whole rows so many bytes hold
 unfoldable pub rowsIn : Width → ℕ → ℕ
-rowsIn eight n = n / 8
+rowsIn eight n = n / rowWidth
 
 -- the width in an image of this edition
 unfoldable pub widthFor : ℕ → Width

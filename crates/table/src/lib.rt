@@ -147,11 +147,7 @@ fn row_place(image: &[u8], i: usize) -> usize
 fn from_here(rows: &[u8], at: usize) -> usize
     ensures { λ r. ⌜ r ≡ rowFrom (now (rows .entry)) at .from ⌝ }
 {
-    if at < rows.len() {
-        two_at(rows, at)
-    } else {
-        0
-    }
+    if at < rows.len() { two_at(rows, at) } else { 0 }
 }
 
 // Whether the row whose bytes start here leaves a state. A search asks this of every row that it is shown, so it reads no more than that.

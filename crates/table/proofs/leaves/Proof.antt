@@ -26,7 +26,7 @@ from-here-requires : tie.Need-from-here-requires
 from-here-requires c κs = search needs
 
 returns : tie.Need-returns
-returns c = 
+returns c =
     let a = c .before .before .before .before .before .before .args in
     ap (λ (n : ℕ). eqb n (a .state)) (c .two .ensures ∙ from-here (a .rows .now) (a .at))
 

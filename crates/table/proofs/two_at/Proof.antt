@@ -26,7 +26,7 @@ returns : tie.Need-returns
 returns c = search needs
 
 returns-2 : tie.Need-returns-2
-returns-2 c = 
+returns-2 c =
     let a = c .before .before .before .before .args in
     two-past (a .image .now) (a .at) _ _ (c .before .before .if1 .left) (c .before .byte-at .ensures) (c .two2 .ensures)
 
