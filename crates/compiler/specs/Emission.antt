@@ -22,9 +22,8 @@ use Rattle.rule.specs.Grammar.{
   IsStatements,
 }
 use Rattle.rule.proofs.Within.{AtomWithin, ConditionWithin, StatementWithin, StatementsWithin, ArmsWithin}
+use Rattle.table.specs.Form.{anySymbol, eitherCounter}
 use Rattle.construction.specs.Construction.{
-  anySymbol,
-  eitherCounter,
   free,
   atomRows,
   Added,

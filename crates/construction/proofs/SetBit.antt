@@ -12,6 +12,7 @@ use lib.ListN.{length, getD, set, replicate, length-set, length-replicate, getD-
 use lib.Seq.{getD-set-same, getD-set-other, set-out}
 use lib.Bits.{bitOr, bitAnd, or-add-and, and-high, or-shr, or-mod, or-lt, or-zero-r}
 use lib.Pow.{pow-lt, pow-add, shl-shr}
+use Rattle.table.specs.Form.{acceptingBytes}
 use Rattle.bits.specs.Bit.{bit, withBit, Bytes}
 use Rattle.rule.specs.Limits.{isIn}
 use Rattle.rule.proofs.Within.{isIn-mem, mem-isIn}
@@ -192,5 +193,5 @@ bits-only ss n s one = go (isIn s ss) refl
         absurd (omega arith)
 
 -- the sixteen accept bytes are sixteen, whichever bits are set
-pub length-accept : (accepting : List ℕ) → length (withBits (replicate 16 0) accepting) ≡ 16
-length-accept accepting = length-withBits accepting (replicate {A = ℕ} 16 0) ∙ length-replicate {A = ℕ} 16 0
+pub length-accept : (accepting : List ℕ) → length (withBits (replicate acceptingBytes 0) accepting) ≡ acceptingBytes
+length-accept accepting = length-withBits accepting (replicate {A = ℕ} acceptingBytes 0) ∙ length-replicate {A = ℕ} acceptingBytes 0
