@@ -5,6 +5,7 @@ use mathlib.Core.Path.{_≡_, refl, sym, ap, _∙_}
 use mathlib.Core.List.{List}
 use lib.ListN.{length, getD}
 use borrow.Author.Tests.{lt-ltb, le-ltb, eq-eqb, ne-eqb}
+use Rattle.table.specs.Form.{toLeft, noMove, toRight}
 use Rattle.cells.specs.declared.Symbol as Code
 use Rattle.cells.specs.declared.Symbol.the-variants as Variants
 use Rattle.cells.specs.Code.{symbolIs}
@@ -31,25 +32,25 @@ on-right w zero other high = absurd (other refl)
 on-right w (suc i) other high = rw (le-ltb i (length w) (omega arith)) refl
 
 -- a move to the left mark
-pub moves-left : (w : List ℕ) (code cell : ℕ) → code ≡ 0 → moved w code cell ≡ 0
+pub moves-left : (w : List ℕ) (code cell : ℕ) → code ≡ toLeft → moved w code cell ≡ 0
 unfolding moved
-moves-left w code cell left = rw (eq-eqb code 0 left) refl
+moves-left w code cell left = rw (eq-eqb code toLeft left) refl
 
 -- a move to the right mark
-pub moves-right : (w : List ℕ) (code cell : ℕ) → code ≡ 128 → moved w code cell ≡ last w
+pub moves-right : (w : List ℕ) (code cell : ℕ) → code ≡ toRight → moved w code cell ≡ last w
 unfolding moved
 moves-right w code cell right = rw right refl
 
--- a move by code - 64, from the cell or, past it, from the right mark
+-- a move by what the code is above or below `noMove`, from the cell or, past it, from the right mark
 pub moves-by
-    : (w : List ℕ) (code cell from by : ℕ) → ¬ (code ≡ 0) → ¬ (code ≡ 128) → from ≡ min cell (last w) → by ≡ code
-    → moved w code cell ≡ min (from + by - 64) (last w)
+    : (w : List ℕ) (code cell from by : ℕ) → ¬ (code ≡ toLeft) → ¬ (code ≡ toRight) → from ≡ min cell (last w) → by ≡ code
+    → moved w code cell ≡ min (from + by - noMove) (last w)
 unfolding moved
-moves-by w code cell from by left right start way = rw (ne-eqb code 0 left, ne-eqb code 128 right, start, way) refl
+moves-by w code cell from by left right start way = rw (ne-eqb code toLeft left, ne-eqb code toRight right, start, way) refl
 
 -- such a move by as many cells to the left as there are, or more, ends on the left mark
 pub moves-back
-    : (w : List ℕ) (code cell from by : ℕ) → ¬ (code ≡ 0) → ¬ (code ≡ 128) → from ≡ min cell (last w) → by ≡ code → from + by ≤ 64
+    : (w : List ℕ) (code cell from by : ℕ) → ¬ (code ≡ toLeft) → ¬ (code ≡ toRight) → from ≡ min cell (last w) → by ≡ code → from + by ≤ noMove
     → moved w code cell ≡ 0
 moves-back w code cell from by left right start way low = omega (arith, moves-by w code cell from by left right start way)
 

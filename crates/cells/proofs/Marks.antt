@@ -1,4 +1,4 @@
--- A head goes to a mark by a move code, 0 or 128: one walk, over the code and the contract, for `to_left` and `to_right`.
+-- A head goes to a mark by its move code: one walk, over the code and the contract, for `to_left` and `to_right`.
 use mathlib.Core.Path.{refl}
 use Prim.Native.Nat.{ℕ, _<_, _^_}
 use mathlib.Core.List.{List, [], _∷_}

@@ -4,6 +4,7 @@ use mathlib.Core.Bool.{cond}
 use mathlib.Core.List.{List}
 use lib.ListN.{length, getD}
 use lib.Dec.{ltb, eqb}
+use Rattle.table.specs.Form.{toLeft, noMove, toRight}
 
 pub data Symbol : Type 0 where
   leftMark : Symbol
@@ -19,7 +20,7 @@ unfoldable pub symbolOn : List ℕ → ℕ → Symbol
 symbolOn word zero = leftMark
 symbolOn word (suc i) = cond (ltb i (length word)) (letter (getD word i 0)) rightMark
 
--- where a row's move leads from a cell: 0 to the left mark, 128 to the right mark, else by code - 64, stopping at 0 and n + 1
+-- where a row's move leads from a cell: to a mark, else by what the code is above or below `noMove`, stopping at 0 and n + 1
 unfoldable pub moved : List ℕ → ℕ → ℕ → ℕ
 moved word code cell =
-    cond (eqb code 0) 0 (cond (eqb code 128) (last word) (min (min cell (last word) + code - 64) (last word)))
+    cond (eqb code toLeft) 0 (cond (eqb code toRight) (last word) (min (min cell (last word) + code - noMove) (last word)))

@@ -38,13 +38,13 @@ pub fn by<'a>(h: Head<'a>, code: u8) -> Head<'a>
 pub fn to_left<'a>(h: Head<'a>) -> Head<'a>
     ensures { λ q. ⌜ (q .word ≡ h .entry .word) × (q .cell ≡ 0) ⌝ }
 {
-    by(h, 0)
+    by(h, table::form::TO_LEFT)
 }
 
 pub fn to_right<'a>(h: Head<'a>) -> Head<'a>
     ensures { λ q. ⌜ (q .word ≡ h .entry .word) × (q .cell ≡ last (now (h .entry .word))) ⌝ }
 {
-    by(h, 128)
+    by(h, table::form::TO_RIGHT)
 }
 
 // What stands on a cell of a word, by way of a head.

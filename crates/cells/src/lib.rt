@@ -1,6 +1,7 @@
 // The cells of a word: what stands on each, and where a row's move leads.
 pub mod head; // head.rt: a head, as a struct that holds the word
 
+use table::form;
 ghost use mathlib.Core.Path.{_≡_};
 ghost use Prim.Native.Nat.{min};
 ghost use Rattle.cells.specs.Cell.{symbolOn, moved};
@@ -11,6 +12,8 @@ pub enum Symbol {
     Letter(u8),
     RightMark,
 }
+
+const NO_MOVE: usize = form::NO_MOVE as usize;
 
 fn wide(code: u8) -> usize
     ensures { λ r. ⌜ r ≡ code ⌝ }
@@ -44,16 +47,16 @@ pub fn moved(word: &[u8], code: u8, cell: usize) -> usize
     ensures { λ r. ⌜ r ≡ moved (now (word .entry)) code cell ⌝ }
 {
     let end = word.len() + 1;
-    if code == 0 {
+    if code == form::TO_LEFT {
         return 0;
     }
-    if code == 128 {
+    if code == form::TO_RIGHT {
         return end;
     }
     let from = at_most(cell, end);
     let sum = from + wide(code);
-    if sum <= 64 {
+    if sum <= NO_MOVE {
         return 0;
     }
-    at_most(sum - 64, end)
+    at_most(sum - NO_MOVE, end)
 }

@@ -1,14 +1,16 @@
 -- An image cut at a place: its bytes from there on, a field that stands there, and rows.
 use Prim.Native.Nat.{ℕ, zero, suc, _+_, _*_, _/_, _%_, _≤_}
-use native.Mathlib.Nat.{add-zero, add-assoc}
+use native.Mathlib.Nat.{add-zero, add-assoc, le-trans}
 use native.Mathlib.Omega.{arith}
 use mathlib.Core.Path.{_≡_, refl, sym, ap, ap₂, _∙_}
 use mathlib.Core.List.{List, [], _∷_, _++_, append-assoc}
 use lib.ListN.{length, take, drop, length-drop, take-append-drop}
 use lib.Seq.{drop-cons, drop-drop, take-at, length-take-le}
 use Rattle.bits.specs.Bit.{Bytes}
+use Rattle.table.specs.Form.{Width, eight, wide}
 use Rattle.table.specs.Image.{twoBytes, field, rowBytes, rowsBytes}
-use Rattle.table.specs.Fields.{byteAt, twoAt, lettersOf, rowFrom, rowOf, rowsFrom, FieldAt}
+use Rattle.table.specs.Fields.{byteAt, twoAt, widthOf, rowPlace, rowFrom, rowOf, rowsFrom, FieldAt}
+use Rattle.table.proofs.RowList.{place-next, place-inside}
 
 -- m bytes, from the jth after a place on
 abbrev pub bytesFrom : List ℕ → ℕ → ℕ → ℕ → List ℕ
@@ -53,12 +55,12 @@ stands-of image at tag n start next {value} {rest} bytes third place long f is t
     let after : drop (at + 3) image ≡ value ++ rest = rw (← third) (cut ∙ ap₂ (λ (a b : List ℕ). a ++ b) is then) in
     split-here image at 3 (omega arith) ∙ (λ i. first i ∷ high i ∷ low i ∷ after i)
 
--- the bytes of the row that stands here
-pub bytes-of-row
-    : (image : List ℕ) (at : ℕ) → Bytes image → at + 8 ≤ length image
-    → drop at image ≡ rowBytes (rowFrom image at) ++ drop (at + 8) image
-unfolding rowFrom rowBytes twoBytes
-bytes-of-row image at bytes long =
+-- the bytes of the row that stands here, in its width
+bytes-of-row
+    : (w : Width) (image : List ℕ) (at : ℕ) → Bytes image → at + wide w ≤ length image
+    → drop at image ≡ rowBytes (rowFrom image at) ++ drop (at + wide w) image
+unfolding rowFrom rowBytes twoBytes wide
+bytes-of-row eight image at bytes long =
     let first : byteAt image (at + 0) ≡ twoAt image at / 256 = rw add-zero (omega (arith, bytes (at + 1))) in
     let second : byteAt image (at + 1) ≡ twoAt image at % 256 = omega (arith, bytes (at + 1)) in
     let seventh : byteAt image (at + 6) ≡ twoAt image (at + 6) / 256 = omega (arith, bytes (at + 6 + 1)) in
@@ -78,14 +80,18 @@ bytes-of-row image at bytes long =
 
 -- the bytes of the rows that stand here
 pub bytes-of-rows
-    : (image : List ℕ) (i n : ℕ) → Bytes image → lettersOf image + 38 + (i + n) * 8 ≤ length image
-    → drop (lettersOf image + 38 + i * 8) image ≡ rowsBytes (rowsFrom image i n) ++ drop (lettersOf image + 38 + (i + n) * 8) image
+    : (image : List ℕ) (i n : ℕ) → Bytes image → rowPlace image (i + n) ≤ length image
+    → drop (rowPlace image i) image ≡ rowsBytes (rowsFrom image i n) ++ drop (rowPlace image (i + n)) image
 unfolding rowsFrom rowsBytes
 bytes-of-rows image i zero bytes long = rw add-zero refl
 bytes-of-rows image i (suc n) bytes long =
-    let at = lettersOf image + 38 + i * 8 in
-    let next : at + 8 ≡ lettersOf image + 38 + suc i * 8 = omega arith in
+    let at = rowPlace image i in
     let end : suc i + n ≡ i + suc n = omega arith in
     let others = bytes-of-rows image (suc i) n bytes (rw end long) in
-    bytes-of-row image at bytes (omega arith)
-    ∙ rw (next, others, end) (sym (append-assoc (rowBytes (rowOf image i)) (rowsBytes (rowsFrom image (suc i) n)) _))
+    let last = drop (rowPlace image (i + suc n)) image in
+    bytes-of-row (widthOf image) image at bytes (le-trans (place-inside image {i = i} {n = i + suc n} (omega arith)) long)
+    ∙ ap (λ (l : List ℕ). rowBytes (rowOf image i) ++ l)
+    (ap (λ (m : ℕ). drop m image) (sym (place-next image i))
+    ∙ others
+    ∙ ap (λ (m : ℕ). rowsBytes (rowsFrom image (suc i) n) ++ drop (rowPlace image m) image) end)
+    ∙ sym (append-assoc (rowBytes (rowOf image i)) (rowsBytes (rowsFrom image (suc i) n)) last)

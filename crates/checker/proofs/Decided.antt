@@ -10,6 +10,7 @@ use lib.Seq.{length-take-le}
 use lib.Dec.{T}
 use Rattle.bits.specs.Bit.{bit, Bytes}
 use Rattle.bits.specs.Byte.{isLetter}
+use Rattle.table.specs.Form.{lettersPlace, eitherCounter, toRight, mostChange, acceptingPlace, acceptingBytes, rowsTag, rowsPlace}
 use Rattle.table.specs.Table.{Row, Table, Accepting}
 use Rattle.table.specs.WellFormed.{SymbolCode, RowInRange, InRange, IsImage}
 use Rattle.table.specs.Fields.{lettersOf, letterOf, rowOf, rowCount, tableOf, Tells, HeadRight, MiddleRight, TailRight, LetterRight}
@@ -19,7 +20,7 @@ use Rattle.table.proofs.Telling.{tells-as}
 use Rattle.table.proofs.Reading.{alphabet-length, part-bytes, accept-past}
 use Rattle.checker.proofs.Framing.{framed-image}
 use Rattle.table.proofs.Encoded.{image-table, image-tail}
-use Rattle.table.proofs.RowList.{rows-length, rows-in, rows-number}
+use Rattle.table.proofs.RowList.{rows-length, rows-in, rows-number, place-low}
 use Rattle.table.proofs.Places.{place-of, member-at}
 use Rattle.checker.proofs.Different.{nodup-of, of-nodup}
 
@@ -38,9 +39,9 @@ abbrev pub StatesRight : Table → ℕ → ℕ → Type 0
 StatesRight t from to = (from < t .states) × (¬ Accepting t from) × (to < t .states)
 
 abbrev pub CodesRight : ℕ → Code.Row → Type 0
-CodesRight k r = SymbolCode k (r .symbol) × (r .test ≤ 2) × (r .motion ≤ 128) × (r .change ≤ 62)
+CodesRight k r = SymbolCode k (r .symbol) × (r .test ≤ eitherCounter) × (r .motion ≤ toRight) × (r .change ≤ mostChange)
 
-module _ (image : List ℕ) (long : lettersOf image + 7 ≤ length image) {row : Code.Row} {r : Row} (is : rowIs row ≡ r) where
+module _ (image : List ℕ) (long : lettersOf image + lettersPlace ≤ length image) {row : Code.Row} {r : Row} (is : rowIs row ≡ r) where
   row-parts
       : StatesRight (tableOf image) (row .from) (row .to) → CodesRight (lettersOf image) row → RowInRange (tableOf image) r
   row-parts states codes =
@@ -87,6 +88,10 @@ others-all image {s} end states passed j past =
 
 -- the ranges of states, and the accept bytes
 module _ (image : List ℕ) where
+  -- the rows stand behind the letters
+  pub rows-behind : TailRight image → rowsPlace (lettersOf image) ≤ length image
+  rows-behind tail = omega (arith, tail .end, place-low image (rowCount image))
+
   states-low : MiddleRight image → 1 ≤ tableOf image .states
   unfolding tableOf
   states-low middle = middle .someState
@@ -95,13 +100,14 @@ module _ (image : List ℕ) where
   unfolding tableOf
   states-high middle = middle .fewStates
 
-  sixteen : lettersOf image + 35 ≤ length image → length (tableOf image .accepting) ≡ 16
+  sixteen : rowsTag (lettersOf image) ≤ length image → length (tableOf image .accepting) ≡ acceptingBytes
   unfolding tableOf
-  sixteen long = length-take-le 16 (drop (lettersOf image + 19) image) (omega (arith, length-drop (lettersOf image + 19) image))
+  sixteen long =
+      length-take-le acceptingBytes (drop (acceptingPlace (lettersOf image)) image) (omega (arith, length-drop (acceptingPlace (lettersOf image)) image))
 
   accepting-bytes : Bytes image → Bytes (tableOf image .accepting)
   unfolding tableOf
-  accepting-bytes bytes = part-bytes image 16 (lettersOf image + 19) bytes
+  accepting-bytes bytes = part-bytes image acceptingBytes (acceptingPlace (lettersOf image)) bytes
 
   -- if all parts are right, the bytes are the image of what they say
   pub parts-image
@@ -113,7 +119,7 @@ module _ (image : List ℕ) where
   }
     where
       many : length (tableOf image .alphabet) ≡ lettersOf image
-      many = alphabet-length image (omega (arith, tail .end))
+      many = alphabet-length image (omega (arith, rows-behind tail))
 
       letter : (b : ℕ) → List·Memᴰ b (tableOf image .alphabet) → T (isLetter b)
       letter b m =
@@ -131,7 +137,7 @@ module _ (image : List ℕ) where
         different = nodup-of (tableOf image .alphabet) (λ c low d before. letters c (omega (arith, many)) .fresh d before);
         someState = states-low middle;
         fewStates = states-high middle;
-        sixteen = sixteen (omega (arith, tail .end));
+        sixteen = sixteen (omega (arith, rows-behind tail));
         bytes = accepting-bytes bytes;
         noOtherBit = others;
         fewRows = rw (rows-length image) (tail .fewRows);
@@ -145,7 +151,7 @@ module _ (image : List ℕ) where
 
     pub image-letters : LettersRight image
     image-letters c low =
-        let many = alphabet-length image (omega (arith, image-tail is .end)) in
+        let many = alphabet-length image (omega (arith, rows-behind (image-tail is))) in
         let inside : c < length (tableOf image .alphabet) = omega arith in
         record {
           letter = image-says .inRange .letters (letterOf image c) (member-at (tableOf image .alphabet) c inside);

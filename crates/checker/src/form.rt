@@ -1,16 +1,19 @@
 // Whether bytes are a well-formed image: a question for each part of it.
 use table::Row;
 use table::accepts;
+use table::form;
 use table::letter_at;
 use table::letter_count;
 use table::row_at;
 use table::row_count;
+use table::rows_bytes;
 use table::state_count;
 ghost use mathlib.Core.Path.{_≡_};
 ghost use Prim.Native.Nat.{ℕ, _+_, _^_, _≤_, _<_};
 ghost use lib.ListN.{length};
 ghost use Rattle.bits.specs.Bit.{bit};
 ghost use Rattle.bits.specs.Byte.{isLetter};
+ghost use Rattle.table.specs.Form.{lettersPlace, eitherCounter, toRight, mostChange};
 ghost use Rattle.table.specs.Table.{Accepting};
 ghost use Rattle.table.specs.Fields.{lettersOf, letterOf, rowOf, rowCount, tableOf, Tells, FieldAt, HeadRight, MiddleRight, TailRight, LetterRight};
 ghost use Rattle.table.specs.WellFormed.{SymbolCode, RowInRange, WellFormed};
@@ -34,10 +37,10 @@ fn head_right(image: &[u8]) -> bool
     if !field_at(image, 0, 1, 1) {
         return false;
     }
-    if bits::byte_at(image, 3) != 1 {
+    if bits::byte_at(image, form::EDITION_PLACE) != form::FIRST_EDITION {
         return false;
     }
-    if !field_at(image, 4, 2, k) {
+    if !field_at(image, form::ALPHABET_TAG, 2, k) {
         return false;
     }
     1 <= k && k <= 16
@@ -50,13 +53,13 @@ fn middle_right(image: &[u8]) -> bool
 {
     let k = letter_count(image);
     let states = state_count(image);
-    if !field_at(image, k + 7, 3, 1) {
+    if !field_at(image, k + form::STOPS_TAG, 3, 1) {
         return false;
     }
-    if 1 < bits::byte_at(image, k + 10) {
+    if 1 < bits::byte_at(image, k + form::STOPS_PLACE) {
         return false;
     }
-    if !field_at(image, k + 11, 4, 2) {
+    if !field_at(image, k + form::STATES_TAG, 4, 2) {
         return false;
     }
     1 <= states && states <= 128
@@ -72,10 +75,11 @@ fn tail_right(image: &[u8]) -> bool
     if 1024 < rows {
         return false;
     }
-    if !field_at(image, k + 16, 5, 16) {
+    if !field_at(image, k + form::ACCEPTING_TAG, 5, form::ACCEPTING_BYTES) {
         return false;
     }
-    field_at(image, k + 35, 6, rows * 8) && image.len() == k + 38 + rows * 8
+    let many = rows_bytes(image);
+    field_at(image, k + form::ROWS_TAG, 6, many) && image.len() == k + form::ROWS_PLACE + many
 }
 
 // Whether a byte may be a letter: 0-9 A-Z a-z.
@@ -148,21 +152,21 @@ fn symbol_right(symbol: u8, k: usize) -> bool
     if (symbol as usize) < k {
         true
     } else {
-        16 <= symbol && symbol <= 18
+        form::LEFT_MARK <= symbol && symbol <= form::ANY_SYMBOL
     }
 }
 
 // Whether a row's codes are in their ranges, with k letters.
 fn codes_right(row: Row, k: usize) -> bool
-    ensures { λ r. ⌜ Tells r (SymbolCode k (row .symbol) × (row .test ≤ 2) × (row .motion ≤ 128) × (row .change ≤ 62)) ⌝ }
+    ensures { λ r. ⌜ Tells r (SymbolCode k (row .symbol) × (row .test ≤ eitherCounter) × (row .motion ≤ toRight) × (row .change ≤ mostChange)) ⌝ }
 {
     if !symbol_right(row.symbol, k) {
         return false;
     }
-    if 2 < row.test {
+    if form::EITHER_COUNTER < row.test {
         return false;
     }
-    row.motion <= 128 && row.change <= 62
+    row.motion <= form::TO_RIGHT && row.change <= form::MOST_CHANGE
 }
 
 // Whether a row may lead from one state to another: both exist, and the first does not accept.
@@ -178,7 +182,7 @@ fn states_right(image: &[u8], from: usize, to: usize) -> bool
 
 // Whether row i is in range. (A letter of the alphabet is one that the image is long enough for.)
 fn row_right(image: &[u8], i: usize) -> bool
-    requires { ⌜ lettersOf (now image) + 7 ≤ length (now image) ⌝ }
+    requires { ⌜ lettersOf (now image) + lettersPlace ≤ length (now image) ⌝ }
     ensures { λ r. ⌜ Tells r (RowInRange (tableOf (now (image .entry))) (rowOf (now (image .entry)) i)) ⌝ }
 {
     let row = row_at(image, i);
@@ -187,7 +191,7 @@ fn row_right(image: &[u8], i: usize) -> bool
 
 // Whether every row is in range.
 fn rows_right(image: &[u8]) -> bool
-    requires { ⌜ lettersOf (now image) + 7 ≤ length (now image) ⌝ }
+    requires { ⌜ lettersOf (now image) + lettersPlace ≤ length (now image) ⌝ }
     ensures { λ r. ⌜ Tells r ((i : ℕ) → i < rowCount (now (image .entry)) → RowInRange (tableOf (now (image .entry))) (rowOf (now (image .entry)) i)) ⌝ }
 {
     let rows = row_count(image);

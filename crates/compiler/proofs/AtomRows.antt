@@ -11,7 +11,8 @@ use lib.Seq.{take-suc, getD-append-add, take-all}
 use lib.Dec.{eqb}
 use borrow.Author.Tests.{eq-eqb, ne-eqb}
 use Rattle.table.specs.Table.{Row}
-use Rattle.construction.specs.Construction.{testRow, eitherCounter, countUp, allSymbols, without, symbolRows}
+use Rattle.table.specs.Form.{eitherCounter, leftMark, rightMark}
+use Rattle.construction.specs.Construction.{testRow, countUp, allSymbols, without, symbolRows}
 use Rattle.compiler.specs.Inside.Writing.{Sheet, Holds, Filled, Room, Writes, Counts}
 use Rattle.reader.specs.declared.atoms.Symbol.{Symbol}
 use Rattle.reader.specs.declared.atoms.Atom.{Atom as Tested}
@@ -30,21 +31,21 @@ pub letter-symbol : (alphabet : List ℕ) (i letters : ℕ) → letters ≡ leng
 letter-symbol alphabet i letters e h =
     let k = length alphabet in
     sym
-    (List·getD-append (countUp 0 k) (16 ∷ 17 ∷ []) 0 i (omega (arith, length-countUp 0 k))
+    (List·getD-append (countUp 0 k) (leftMark ∷ rightMark ∷ []) 0 i (omega (arith, length-countUp 0 k))
     ∙ countUp-at k 0 i (omega arith)
     ∙ omega arith)
 
-pub mark-symbol : (alphabet : List ℕ) (i letters : ℕ) → letters ≡ length alphabet → letters ≤ i → i < letters + 2 → i - letters + 16 ≡ getD (allSymbols alphabet) i 0
+pub mark-symbol : (alphabet : List ℕ) (i letters : ℕ) → letters ≡ length alphabet → letters ≤ i → i < letters + 2 → i - letters + leftMark ≡ getD (allSymbols alphabet) i 0
 mark-symbol alphabet i letters e h l =
     let k = length alphabet in
     let n = i - letters in
     let same : i ≡ length (countUp 0 k) + n = omega (arith, length-countUp 0 k) in
     sym
     (ap (λ (m : ℕ). getD (allSymbols alphabet) m 0) same
-    ∙ getD-append-add (countUp 0 k) (16 ∷ 17 ∷ []) n 0
+    ∙ getD-append-add (countUp 0 k) (leftMark ∷ rightMark ∷ []) n 0
     ∙ go n (omega arith))
   where
-    go : (n : ℕ) → n < 2 → getD (16 ∷ 17 ∷ []) n 0 ≡ n + 16
+    go : (n : ℕ) → n < 2 → getD (leftMark ∷ rightMark ∷ []) n 0 ≡ n + leftMark
     go zero l = refl
     go (suc zero) l = refl
     go (suc (suc n)) l = absurd (omega arith)

@@ -13,6 +13,7 @@ use Rattle.text.specs.declared.Word.{Word}
 use Rattle.text.specs.declared.Word.the-variants as Word
 use Rattle.text.specs.declared.Sign.{Sign}
 use Rattle.text.specs.declared.Sign.the-variants as Sign
+use Rattle.table.specs.Form.{lettersPlace, rowsPlace}
 use Rattle.table.specs.Image.{encode}
 use Rattle.rule.specs.Tree.{Letter, Order, Program, letterBytes}
 use Rattle.rule.specs.Grammar.{
@@ -51,28 +52,28 @@ use Rattle.compiler.proofs.Writing.{length-written, written-whole}
 use Rattle.compiler.proofs.Seeing.{seen-behind, seen-word, seen-sign}
 
 -- no byte is over any, and one more goes behind those that are there
-over-none : (old : List ℕ) → old ≡ over old 7 []
-over-none old = sym (take-append-drop 7 old)
+over-none : (old : List ℕ) → old ≡ over old lettersPlace []
+over-none old = sym (take-append-drop lettersPlace old)
 
-over-more : (old bytes : List ℕ) (b n : ℕ) → n ≡ length bytes → n + 7 < length old → set (over old 7 bytes) (n + 7) b ≡ over old 7 (bytes ++ (b ∷ []))
+over-more : (old bytes : List ℕ) (b n : ℕ) → n ≡ length bytes → n + lettersPlace < length old → set (over old lettersPlace bytes) (n + lettersPlace) b ≡ over old lettersPlace (bytes ++ (b ∷ []))
 over-more old bytes b n many fits =
-    let first = take 7 old in
-    let rest = drop (suc (7 + length bytes)) old in
-    let long : length (first ++ bytes) ≡ n + 7 = omega (arith, length-append first bytes, length-take-le 7 old (omega arith)) in
-    let opened : over old 7 bytes ≡ (first ++ bytes) ++ (getD old (7 + length bytes) 0 ∷ rest) =
-    ap (λ (l : List ℕ). first ++ (bytes ++ l)) (drop-cons old (7 + length bytes) 0 (omega arith))
-    ∙ sym (append-assoc first bytes (getD old (7 + length bytes) 0 ∷ rest))
+    let first = take lettersPlace old in
+    let rest = drop (suc (lettersPlace + length bytes)) old in
+    let long : length (first ++ bytes) ≡ n + lettersPlace = omega (arith, length-append first bytes, length-take-le lettersPlace old (omega arith)) in
+    let opened : over old lettersPlace bytes ≡ (first ++ bytes) ++ (getD old (lettersPlace + length bytes) 0 ∷ rest) =
+    ap (λ (l : List ℕ). first ++ (bytes ++ l)) (drop-cons old (lettersPlace + length bytes) 0 (omega arith))
+    ∙ sym (append-assoc first bytes (getD old (lettersPlace + length bytes) 0 ∷ rest))
     in
-    let ends : suc (7 + length bytes) ≡ 7 + length (bytes ++ (b ∷ [])) = omega (arith, length-append bytes (b ∷ [])) in
-    ap (λ (l : List ℕ). set l (n + 7) b) opened
-    ∙ set-at (first ++ bytes) (getD old (7 + length bytes) 0) rest b (n + 7) long
+    let ends : suc (lettersPlace + length bytes) ≡ lettersPlace + length (bytes ++ (b ∷ [])) = omega (arith, length-append bytes (b ∷ [])) in
+    ap (λ (l : List ℕ). set l (n + lettersPlace) b) opened
+    ∙ set-at (first ++ bytes) (getD old (lettersPlace + length bytes) 0) rest b (n + lettersPlace) long
     ∙ append-assoc first bytes (b ∷ rest)
     ∙ ap (λ (l : List ℕ). first ++ l) (sym (append-assoc bytes (b ∷ []) rest))
     ∙ ap (λ (k : ℕ). first ++ ((bytes ++ (b ∷ [])) ++ drop k old)) ends
 
-length-over : (old bytes : List ℕ) → 7 + length bytes ≤ length old → length (over old 7 bytes) ≡ length old
+length-over : (old bytes : List ℕ) → lettersPlace + length bytes ≤ length old → length (over old lettersPlace bytes) ≡ length old
 length-over old bytes fits =
-    simp (length-append, length-drop) (omega (arith, length-take-le 7 old (omega arith)))
+    simp (length-append, length-drop) (omega (arith, length-take-le lettersPlace old (omega arith)))
 
 -- the letters so far are in the image, and the others are to come
 pub record SoFar (text before out : List ℕ) (place count : ℕ) (us : Ts) (l : List Letter) : Type 0 where
@@ -83,7 +84,7 @@ pub record SoFar (text before out : List ℕ) (place count : ℕ) (us : Ts) (l :
   pub here : Here text place rest
   pub letters : IsLetters rest left ((s "]" at end) ∷ us)
   pub all : bytes ++ letterBytes left ≡ letterBytes l
-  pub written : out ≡ over before 7 bytes
+  pub written : out ≡ over before lettersPlace bytes
   pub counted : count ≡ length bytes
 
 pub so-far-none : {text before : List ℕ} {from : ℕ} {ts us : Ts} {l : List Letter} → LettersAt text from before ts us l → SoFar text before before from 0 us l
@@ -112,7 +113,7 @@ byte-seen (Seen.aLetter t h) = refl
 pub so-far-room : {text before out : List ℕ} {from place count : ℕ} {ts us : Ts} {l : List Letter}
     → LettersAt text from before ts us l
     → SoFar text before out place count us l
-    → (count < 16) × (count + 7 < length out)
+    → (count < 16) × (count + lettersPlace < length out)
 so-far-room {before = before} {out = out} {l = l} a f =
     let all : length (f .bytes) + length (f .left) ≡ length l = simp (length-append, length-letterBytes) at (ap length (f .all)) in
     let fewer : length (f .bytes) < 16 = omega (arith, some-letter (f .letters), a .few, all) in
@@ -125,7 +126,7 @@ module _ {text before out : List ℕ} {place count : ℕ} {us : Ts} {l : List Le
       → IsLetters rest left ((s "]" at end) ∷ us)
       → Here text place rest
       → bytes ++ letterBytes left ≡ letterBytes l
-      → out ≡ over before 7 (bytes ++ (t .byte ∷ []))
+      → out ≡ over before lettersPlace (bytes ++ (t .byte ∷ []))
       → count ≡ length (bytes ++ (t .byte ∷ []))
       → n .sign ≡ Sign.Comma
       → SoFar text before out (n .end) count us l
@@ -153,7 +154,7 @@ module _ {text before out : List ℕ} {place count : ℕ} {us : Ts} {l : List Le
       → IsLetters rest left ((s "]" at end) ∷ us)
       → Here text place rest
       → bytes ++ letterBytes left ≡ letterBytes l
-      → out ≡ over before 7 (bytes ++ (t .byte ∷ []))
+      → out ≡ over before lettersPlace (bytes ++ (t .byte ∷ []))
       → count ≡ length (bytes ++ (t .byte ∷ []))
       → OneOf (signTags (17 ∷ [])) (signTag (n .sign))
       → Listing text before out us l (record { at = n .end; count = count })
@@ -163,7 +164,7 @@ module _ {text before out : List ℕ} {place count : ℕ} {us : Ts} {l : List Le
       let whole : bytes ++ (t .byte ∷ []) ≡ letterBytes l = ap (λ (b : ℕ). bytes ++ (b ∷ [])) (byte-seen first) ∙ all in
       record {
         here = seen-behind (sees′ .stands _ (seen-behind first .here)) .here;
-        bytes = written ∙ ap (over before 7) whole;
+        bytes = written ∙ ap (over before lettersPlace) whole;
         count = counted ∙ ap length whole ∙ length-letterBytes l;
       }
   last bytes (more m) here all written counted other =
@@ -173,19 +174,19 @@ module _ {text before out : List ℕ} {place count : ℕ} {us : Ts} {l : List Le
 -- a turn of the loop
 module _ {text before out : List ℕ} {from place count : ℕ} {ts us : Ts} {l : List Letter} {t n : Seen}
     (sees : Sees text place t) (sees′ : Sees text (t .end) n) (a : LettersAt text from before ts us l) (f : SoFar text before out place count us l) where
-  put : set out (count + 7) (t .byte) ≡ over before 7 (f .bytes ++ (t .byte ∷ []))
+  put : set out (count + lettersPlace) (t .byte) ≡ over before lettersPlace (f .bytes ++ (t .byte ∷ []))
   put =
-      ap (λ (o : List ℕ). set o (count + 7) (t .byte)) (f .written)
+      ap (λ (o : List ℕ). set o (count + lettersPlace) (t .byte)) (f .written)
       ∙ over-more before (f .bytes) (t .byte) count (f .counted)
       (omega (arith, so-far-room a f, ap length (f .written), length-over before (f .bytes) (omega (arith, so-far-room a f, f .counted, a .room))))
 
   more-counted : count + 1 ≡ length (f .bytes ++ (t .byte ∷ []))
   more-counted = omega (arith, f .counted, length-append (f .bytes) (t .byte ∷ []))
 
-  pub so-far-more : n .sign ≡ Sign.Comma → SoFar text before (set out (count + 7) (t .byte)) (n .end) (count + 1) us l
+  pub so-far-more : n .sign ≡ Sign.Comma → SoFar text before (set out (count + lettersPlace) (t .byte)) (n .end) (count + 1) us l
   so-far-more is = comma sees sees′ (f .bytes) (f .letters) (f .here) (f .all) put more-counted is
 
-  pub so-far-all : OneOf (signTags (17 ∷ [])) (signTag (n .sign)) → Listing text before (set out (count + 7) (t .byte)) us l (record { at = n .end; count = count + 1 })
+  pub so-far-all : OneOf (signTags (17 ∷ [])) (signTag (n .sign)) → Listing text before (set out (count + lettersPlace) (t .byte)) us l (record { at = n .end; count = count + 1 })
   so-far-all other = last sees sees′ (f .bytes) (f .letters) (f .here) (f .all) put more-counted other
 
 -- the truth that is told
@@ -408,7 +409,7 @@ module _ {text before : List ℕ} {states rows : ℕ} {p : Program} (fits : Fits
     pub fits-beginning : {after : List ℕ} {end : ℕ}
         → Heads middle after (settled .count) (settled .stops) states rows
         → GoesPast text (settled .at) 5 end
-        → Beginning text before after states rows p (record { at = end; state = 0; next = 1; row = settled .count + 38 })
+        → Beginning text before after states rows p (record { at = end; state = 0; next = 1; row = rowsPlace (settled .count) })
     unfolding programPart construct
     fits-beginning {after} {end} heads pass =
         let alphabet = letterBytes (p .alphabet) in

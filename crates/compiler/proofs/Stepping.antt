@@ -12,6 +12,7 @@ use Rattle.text.specs.declared.Word.{Word}
 use Rattle.text.specs.declared.Word.the-variants as Word
 use Rattle.text.specs.declared.Sign.{Sign}
 use Rattle.text.specs.declared.Sign.the-variants as Sign
+use Rattle.table.specs.Form.{toLeft, noMove, toRight, noChange}
 use Rattle.table.specs.Table.{Row}
 use Rattle.rule.specs.Limits.{valueFrom}
 use Rattle.rule.specs.Tree as Tree
@@ -184,7 +185,7 @@ module _ {text : List ℕ} {start from : ℕ} {t : Seen} (pass : GoesPast text s
       → part ≡ stepPart (moveCode e) (changeCode e) p next
       → t .sign ≡ Sign.Minus
       → Sees text (t .end) n
-      → Counted text start n 2 us part p next 63 (λ v. 64 - v) (λ _. 31)
+      → Counted text start n 2 us part p next 63 (λ v. noMove - v) (λ _. noChange)
   unfolding moveCode changeCode PlainWithin
   move-back forward here within is minus more =
       let r = pass .behind _ here (omega arith) in
@@ -192,7 +193,7 @@ module _ {text : List ℕ} {start from : ℕ} {t : Seen} (pass : GoesPast text s
   move-back back here within is minus more =
       let r = pass .behind _ here (omega arith) in
       let b = seen-behind (sees .stands _ (r .here)) in
-      counted 2 63 (λ v. 64 - v) (λ _. 31) (omega (arith, r .onward, b .onward)) more (b .here) (omega arith) refl within (omega arith) is
+      counted 2 63 (λ v. noMove - v) (λ _. noChange) (omega (arith, r .onward, b .onward)) more (b .here) (omega arith) refl within (omega arith) is
 
   -- else forward
   move-forward : {ts us : Ts} {e : Plain}
@@ -201,11 +202,11 @@ module _ {text : List ℕ} {start from : ℕ} {t : Seen} (pass : GoesPast text s
       → PlainWithin e
       → part ≡ stepPart (moveCode e) (changeCode e) p next
       → OneOf (signTags (10 ∷ [])) (signTag (t .sign))
-      → Counted text start t 2 us part p next 63 (λ v. 64 + v) (λ _. 31)
+      → Counted text start t 2 us part p next 63 (λ v. noMove + v) (λ _. noChange)
   unfolding moveCode changeCode PlainWithin
   move-forward forward here within is other =
       let r = pass .behind _ here (omega arith) in
-      counted 2 63 (λ v. 64 + v) (λ _. 31) (omega (arith, r .onward)) sees (r .here) (omega arith) refl within (omega arith) is
+      counted 2 63 (λ v. noMove + v) (λ _. noChange) (omega (arith, r .onward)) sees (r .here) (omega arith) refl within (omega arith) is
   move-forward back here within is other =
       let r = pass .behind _ here (omega arith) in
       absurd (none-of (signTags (10 ∷ [])) (signTag (t .sign)) 10 tt other (ap signTag (seen-sign Sign.Minus (sees .stands _ (r .here)) refl)))
@@ -216,11 +217,11 @@ module _ {text : List ℕ} {start from : ℕ} {t : Seen} (pass : GoesPast text s
       → Here text start ts
       → part ≡ stepPart (moveCode e) (changeCode e) p next
       → t .word ≡ Word.Lend
-      → Short text start t 2 us part p next 0 31
+      → Short text start t 2 us part p next toLeft noChange
   unfolding moveCode changeCode
   goto-lend toLend here is lend =
       let r = pass .behind _ here (omega arith) in
-      short 2 0 31 (omega (arith, r .onward)) sees (r .here) (omega arith) refl is
+      short 2 toLeft noChange (omega (arith, r .onward)) sees (r .here) (omega arith) refl is
   goto-lend toRend here is lend =
       let r = pass .behind _ here (omega arith) in
       let tags : _≡_ {A = ℕ} 8 9 = ap wordTag (sym lend ∙ seen-word Word.Rend (sees .stands _ (r .here)) refl) in
@@ -231,14 +232,14 @@ module _ {text : List ℕ} {start from : ℕ} {t : Seen} (pass : GoesPast text s
       → Here text start ts
       → part ≡ stepPart (moveCode e) (changeCode e) p next
       → OneOf (wordTags (8 ∷ [])) (wordTag (t .word))
-      → Short text start t 2 us part p next 128 31
+      → Short text start t 2 us part p next toRight noChange
   unfolding moveCode changeCode
   goto-rend toLend here is other =
       let r = pass .behind _ here (omega arith) in
       absurd (none-of (wordTags (8 ∷ [])) (wordTag (t .word)) 8 tt other (ap wordTag (seen-word Word.Lend (sees .stands _ (r .here)) refl)))
   goto-rend toRend here is other =
       let r = pass .behind _ here (omega arith) in
-      short 2 128 31 (omega (arith, r .onward)) sees (r .here) (omega arith) refl is
+      short 2 toRight noChange (omega (arith, r .onward)) sees (r .here) (omega arith) refl is
 
 -- the calls of a move
 module _ {text out : List ℕ} {place : Place} {from : ℕ} {t : Seen} (pass : GoesPast text (place .at) 1 from) (sees : Sees text from t)
@@ -247,20 +248,20 @@ module _ {text out : List ℕ} {place : Place} {from : ℕ} {t : Seen} (pass : G
     move-task : PlainTask Move p next ts us part
     move-task = let o = headed-of (d .is) in plain-task o (statement-move (o .derived))
 
-    pub back-counted : {n : Seen} → t .sign ≡ Sign.Minus → Sees text (t .end) n → Counted text (place .at) n 2 us part p next 63 (λ v. 64 - v) (λ _. 31)
+    pub back-counted : {n : Seen} → t .sign ≡ Sign.Minus → Sees text (t .end) n → Counted text (place .at) n 2 us part p next 63 (λ v. noMove - v) (λ _. noChange)
     back-counted minus more = move-back pass sees (move-task .derived) (d .stands .here) (move-task .within) (move-task .is) minus more
 
-    pub forward-counted : OneOf (signTags (10 ∷ [])) (signTag (t .sign)) → Counted text (place .at) t 2 us part p next 63 (λ v. 64 + v) (λ _. 31)
+    pub forward-counted : OneOf (signTags (10 ∷ [])) (signTag (t .sign)) → Counted text (place .at) t 2 us part p next 63 (λ v. noMove + v) (λ _. noChange)
     forward-counted other = move-forward pass sees (move-task .derived) (d .stands .here) (move-task .within) (move-task .is) other
 
   module _ (d : Doing (HeadedTask (w "goto")) text out place h accepting rows p next ts us part) where
     goto-task : PlainTask Goto p next ts us part
     goto-task = let o = headed-of (d .is) in plain-task o (statement-goto (o .derived))
 
-    pub lend-short : t .word ≡ Word.Lend → Short text (place .at) t 2 us part p next 0 31
+    pub lend-short : t .word ≡ Word.Lend → Short text (place .at) t 2 us part p next toLeft noChange
     lend-short lend = goto-lend pass sees (goto-task .derived) (d .stands .here) (goto-task .is) lend
 
-    pub rend-short : OneOf (wordTags (8 ∷ [])) (wordTag (t .word)) → Short text (place .at) t 2 us part p next 128 31
+    pub rend-short : OneOf (wordTags (8 ∷ [])) (wordTag (t .word)) → Short text (place .at) t 2 us part p next toRight noChange
     rend-short other = goto-rend pass sees (goto-task .derived) (d .stands .here) (goto-task .is) other
 
 -- the value that was counted stands for the number
@@ -273,11 +274,11 @@ stepping-by {text} {n = n} {many = many} {us = us} {part = part} {p = p} {next =
 
 -- a change of the counter, by the sign that is seen
 data ChangeSeen (text : List ℕ) (start : ℕ) (t : Seen) (us : Ts) (part : Part) (p next : ℕ) : Sign → Type 0 where
-  seenUp : Short text start t 1 us part p next 64 32 → ChangeSeen text start t us part p next Sign.Increment
-  seenDown : Short text start t 1 us part p next 64 30 → ChangeSeen text start t us part p next Sign.Decrement
-  seenUpBy : ((n : Seen) → Sees text (t .end) n → Counted text start n 1 us part p next 31 (λ _. 64) (λ v. 31 + v))
+  seenUp : Short text start t 1 us part p next noMove (noChange + 1) → ChangeSeen text start t us part p next Sign.Increment
+  seenDown : Short text start t 1 us part p next noMove (noChange - 1) → ChangeSeen text start t us part p next Sign.Decrement
+  seenUpBy : ((n : Seen) → Sees text (t .end) n → Counted text start n 1 us part p next 31 (λ _. noMove) (λ v. noChange + v))
       → ChangeSeen text start t us part p next Sign.Add
-  seenDownBy : ((n : Seen) → Sees text (t .end) n → Counted text start n 1 us part p next 31 (λ _. 64) (λ v. 31 - v))
+  seenDownBy : ((n : Seen) → Sees text (t .end) n → Counted text start n 1 us part p next 31 (λ _. noMove) (λ v. noChange - v))
       → ChangeSeen text start t us part p next Sign.Subtract
 
 change-seen : {text : List ℕ} {start : ℕ} {t : Seen} {part : Part} {p next : ℕ} {ts us : Ts} {e : Plain}
@@ -290,30 +291,30 @@ change-seen : {text : List ℕ} {start : ℕ} {t : Seen} {part : Part} {p next :
 unfolding moveCode changeCode PlainWithin
 change-seen {text} {start} {t} {part} {p} {next} sees (up {us = us}) here within is =
     subst (ChangeSeen text start t us part p next) (sym (seen-sign Sign.Increment (sees .stands _ here) refl))
-    (seenUp (short 1 64 32 (omega arith) sees here (omega arith) refl is))
+    (seenUp (short 1 noMove (noChange + 1) (omega arith) sees here (omega arith) refl is))
 change-seen {text} {start} {t} {part} {p} {next} sees (down {us = us}) here within is =
     subst (ChangeSeen text start t us part p next) (sym (seen-sign Sign.Decrement (sees .stands _ here) refl))
-    (seenDown (short 1 64 30 (omega arith) sees here (omega arith) refl is))
+    (seenDown (short 1 noMove (noChange - 1) (omega arith) sees here (omega arith) refl is))
 change-seen {text} {start} {t} {part} {p} {next} sees (upBy {us = us}) here within is =
     let b = seen-behind (sees .stands _ here) in
     subst (ChangeSeen text start t us part p next) (sym (seen-sign Sign.Add (sees .stands _ here) refl))
-    (seenUpBy (λ n more. counted 1 31 (λ _. 64) (λ v. 31 + v) (omega (arith, b .onward)) more (b .here) (omega arith) refl within (omega arith) is))
+    (seenUpBy (λ n more. counted 1 31 (λ _. noMove) (λ v. noChange + v) (omega (arith, b .onward)) more (b .here) (omega arith) refl within (omega arith) is))
 change-seen {text} {start} {t} {part} {p} {next} sees (downBy {us = us}) here within is =
     let b = seen-behind (sees .stands _ here) in
     subst (ChangeSeen text start t us part p next) (sym (seen-sign Sign.Subtract (sees .stands _ here) refl))
-    (seenDownBy (λ n more. counted 1 31 (λ _. 64) (λ v. 31 - v) (omega (arith, b .onward)) more (b .here) (omega arith) refl within (omega arith) is))
+    (seenDownBy (λ n more. counted 1 31 (λ _. noMove) (λ v. noChange - v) (omega (arith, b .onward)) more (b .here) (omega arith) refl within (omega arith) is))
 
 module _ {text : List ℕ} {start : ℕ} {t : Seen} {us : Ts} {part : Part} {p next : ℕ} where
-  as-up : ChangeSeen text start t us part p next Sign.Increment → Short text start t 1 us part p next 64 32
+  as-up : ChangeSeen text start t us part p next Sign.Increment → Short text start t 1 us part p next noMove (noChange + 1)
   as-up (seenUp c) = c
 
-  as-down : ChangeSeen text start t us part p next Sign.Decrement → Short text start t 1 us part p next 64 30
+  as-down : ChangeSeen text start t us part p next Sign.Decrement → Short text start t 1 us part p next noMove (noChange - 1)
   as-down (seenDown c) = c
 
-  as-up-by : ChangeSeen text start t us part p next Sign.Add → (n : Seen) → Sees text (t .end) n → Counted text start n 1 us part p next 31 (λ _. 64) (λ v. 31 + v)
+  as-up-by : ChangeSeen text start t us part p next Sign.Add → (n : Seen) → Sees text (t .end) n → Counted text start n 1 us part p next 31 (λ _. noMove) (λ v. noChange + v)
   as-up-by (seenUpBy c) = c
 
-  as-down-by : {g : Sign} → ChangeSeen text start t us part p next g → OneOf (signTags (6 ∷ 7 ∷ 8 ∷ [])) (signTag g) → (n : Seen) → Sees text (t .end) n → Counted text start n 1 us part p next 31 (λ _. 64) (λ v. 31 - v)
+  as-down-by : {g : Sign} → ChangeSeen text start t us part p next g → OneOf (signTags (6 ∷ 7 ∷ 8 ∷ [])) (signTag g) → (n : Seen) → Sees text (t .end) n → Counted text start n 1 us part p next 31 (λ _. noMove) (λ v. noChange - v)
   as-down-by (seenUp c) other = absurd (miss (signTags (6 ∷ 7 ∷ 8 ∷ [])) 6 tt other)
   as-down-by (seenDown c) other = absurd (miss (signTags (6 ∷ 7 ∷ 8 ∷ [])) 7 tt other)
   as-down-by (seenUpBy c) other = absurd (miss (signTags (6 ∷ 7 ∷ 8 ∷ [])) 8 tt other)
@@ -332,14 +333,14 @@ module _ {text out : List ℕ} {place : Place} {t : Seen} (sees : Sees text (pla
   change-is : {g : Sign} → t .sign ≡ g → ChangeSeen text (place .at) t us part p next g
   change-is is = subst (ChangeSeen text (place .at) t us part p next) is change-here
 
-  pub up-short : t .sign ≡ Sign.Increment → Short text (place .at) t 1 us part p next 64 32
+  pub up-short : t .sign ≡ Sign.Increment → Short text (place .at) t 1 us part p next noMove (noChange + 1)
   up-short is = as-up (change-is is)
 
-  pub down-short : t .sign ≡ Sign.Decrement → Short text (place .at) t 1 us part p next 64 30
+  pub down-short : t .sign ≡ Sign.Decrement → Short text (place .at) t 1 us part p next noMove (noChange - 1)
   down-short is = as-down (change-is is)
 
-  pub up-counted : {n : Seen} → t .sign ≡ Sign.Add → Sees text (t .end) n → Counted text (place .at) n 1 us part p next 31 (λ _. 64) (λ v. 31 + v)
+  pub up-counted : {n : Seen} → t .sign ≡ Sign.Add → Sees text (t .end) n → Counted text (place .at) n 1 us part p next 31 (λ _. noMove) (λ v. noChange + v)
   up-counted is more = as-up-by (change-is is) _ more
 
-  pub down-counted : {n : Seen} → OneOf (signTags (6 ∷ 7 ∷ 8 ∷ [])) (signTag (t .sign)) → Sees text (t .end) n → Counted text (place .at) n 1 us part p next 31 (λ _. 64) (λ v. 31 - v)
+  pub down-counted : {n : Seen} → OneOf (signTags (6 ∷ 7 ∷ 8 ∷ [])) (signTag (t .sign)) → Sees text (t .end) n → Counted text (place .at) n 1 us part p next 31 (λ _. noMove) (λ v. noChange - v)
   down-counted other more = as-down-by change-here other _ more

@@ -12,8 +12,9 @@ use native.Mathlib.Decide.{ℕ-discrete}
 use Rattle.bytes.specs.Bytes.{slice, indexOf, indexAfter}
 use Rattle.bits.specs.Bit.{withBit}
 use Rattle.bits.proofs.Over.{over-behind}
+use Rattle.table.specs.Form.{firstEdition, lettersPlace, acceptingPlace, acceptingBytes, rowsPlace, rowWidth}
 use Rattle.table.specs.Table.{Row}
-use Rattle.table.specs.Image.{twoBytes, field, rowBytes, rowsBytes, flag, edition, encode}
+use Rattle.table.specs.Image.{twoBytes, field, rowBytes, rowsBytes, flag, encode}
 use Rattle.table.proofs.Image.{length-rows, length-field}
 use Rattle.construction.specs.Construction.{withBits, indexIn}
 use Rattle.construction.specs.Compile.{imageRoom}
@@ -27,7 +28,7 @@ regroup a b c d = simp append-assoc
 in-order : (a b c d e r : List ℕ) → (a ++ (b ++ (c ++ (d ++ e)))) ++ r ≡ a ++ (b ++ (c ++ (d ++ (e ++ r))))
 in-order a b c d e r = simp append-assoc
 
-length-front : (h : Sheet) → length (front h) ≡ length (h .alphabet) + 19
+length-front : (h : Sheet) → length (front h) ≡ acceptingPlace (length (h .alphabet))
 unfolding front twoBytes
 length-front h = simp (length-append, length-field) (omega arith)
 
@@ -44,7 +45,7 @@ written-more : (h : Sheet) (accepting : List ℕ) (rows : List Row) (r : Row) �
 unfolding written
 written-more h accepting rows r = simp (rows-more, append-assoc)
 
-row-length : (r : Row) → length (rowBytes r) ≡ 8
+row-length : (r : Row) → length (rowBytes r) ≡ rowWidth
 unfolding rowBytes twoBytes
 row-length r = refl
 
@@ -57,7 +58,7 @@ module _ {h : Sheet} {accepting : List ℕ} {rows : List Row} {out : List ℕ} (
       (omega (arith, holds .few, holds .room, holds .most))
 
   -- so there is room for a row that is to come
-  pub row-room : length rows < h .count → rowPlace h rows + 8 ≤ length out
+  pub row-room : length rows < h .count → rowPlace h rows + rowWidth ≤ length out
   row-room more = omega (arith, length-held (omega arith), holds .few, holds .room, holds .most)
 
   -- and a row more is written
@@ -88,14 +89,14 @@ unfolding rowBytes twoBytes
 row-bytes from symbol test move change to f₁ f₂ t₁ t₂ a b c d = λ i. a i ∷ b i ∷ symbol ∷ test ∷ move ∷ change ∷ c i ∷ d i ∷ []
 
 -- there is room for a row that is the next
-pub room-one : {before : List ℕ} {place : ℕ} {r : Row} → Room before place (λ _. r ∷ []) → place + 8 ≤ length before
+pub room-one : {before : List ℕ} {place : ℕ} {r : Row} → Room before place (λ _. r ∷ []) → place + rowWidth ≤ length before
 room-one room = omega (arith, row-room (room .filled .holds) (omega (arith, room .fits)), room .filled .here)
 
 -- a row is written where its bytes are put
 pub writes-row : {before after : List ℕ} {place end : ℕ} (r : Row) (bytes : List ℕ)
     → bytes ≡ rowBytes r
     → after ≡ over before place bytes
-    → end ≡ place + 8
+    → end ≡ place + rowWidth
     → Writes before after place end (λ _. r ∷ [])
 writes-row {before} {after} {place} {end} r bytes same put e = record { writes = λ filled fits. more filled }
   where
@@ -111,16 +112,16 @@ lead : Sheet → List ℕ
 lead h = field 1 (1 ∷ []) ++ field 2 (h .alphabet)
 
 back : Sheet → List ℕ
-back h = field 3 (flag (h .stops) ∷ []) ++ (field 4 (twoBytes (h .states)) ++ (5 ∷ twoBytes 16))
+back h = field 3 (flag (h .stops) ∷ []) ++ (field 4 (twoBytes (h .states)) ++ (5 ∷ twoBytes acceptingBytes))
 
 rest : Sheet → List ℕ → List Row → List ℕ
-rest h accepting rows = back h ++ (acceptBytes accepting ++ (6 ∷ (twoBytes (8 * h .count) ++ rowsBytes rows)))
+rest h accepting rows = back h ++ (acceptBytes accepting ++ (6 ∷ (twoBytes (rowWidth * h .count) ++ rowsBytes rows)))
 
 lead-rest : (h : Sheet) (accepting : List ℕ) (rows : List Row) → written h accepting rows ≡ lead h ++ rest h accepting rows
 unfolding written front lead back rest
 lead-rest h accepting rows = simp append-assoc
 
-length-lead : (h : Sheet) → length (lead h) ≡ length (h .alphabet) + 7
+length-lead : (h : Sheet) → length (lead h) ≡ length (h .alphabet) + lettersPlace
 unfolding lead
 length-lead h = simp (length-append, length-field) (omega arith)
 
@@ -142,9 +143,9 @@ index-same (x ∷ xs) b = ap (λ (t : Bool). indexAfter t (indexOf b xs)) (eqb-t
     go false e = ap suc e
 
 -- an index is counted from the first letter's place
-pub index-back : (b : ℕ) (out : List ℕ) {r n k i : ℕ} → r ≡ 7 + indexOf b (slice 7 (n + 7) out) → n ≡ k → indexOf b (slice 7 (k + 7) out) ≡ i → r - 7 ≡ i
+pub index-back : (b : ℕ) (out : List ℕ) {r n k i : ℕ} → r ≡ lettersPlace + indexOf b (slice lettersPlace (n + lettersPlace) out) → n ≡ k → indexOf b (slice lettersPlace (k + lettersPlace) out) ≡ i → r - lettersPlace ≡ i
 index-back b out {n = n} {k = k} e same f =
-    let moved : indexOf b (slice 7 (n + 7) out) ≡ indexOf b (slice 7 (k + 7) out) = ap (λ (m : ℕ). indexOf b (slice 7 (m + 7) out)) same in
+    let moved : indexOf b (slice lettersPlace (n + lettersPlace) out) ≡ indexOf b (slice lettersPlace (k + lettersPlace) out) = ap (λ (m : ℕ). indexOf b (slice lettersPlace (m + lettersPlace) out)) same in
     omega arith
 
 module _ {h : Sheet} {accepting : List ℕ} {rows : List Row} {out : List ℕ} (holds : Holds h accepting rows out) where
@@ -155,7 +156,7 @@ module _ {h : Sheet} {accepting : List ℕ} {rows : List Row} {out : List ℕ} (
       ∙ append-assoc (lead h) (rest h accepting rows) (drop (rowPlace h rows) (h .old))
 
   -- the header and the accept bytes are within the buffer
-  pub held-long : length (h .alphabet) + 38 ≤ length out
+  pub held-long : rowsPlace (length (h .alphabet)) ≤ length out
   held-long =
       omega (
         arith,
@@ -170,15 +171,15 @@ module _ {h : Sheet} {accepting : List ℕ} {rows : List Row} {out : List ℕ} (
   held-count = ap (λ (l : List ℕ). getD l 6 0) held-lead ∙ omega (arith, holds .few)
 
   -- and they stand behind it
-  pub held-letters : slice 7 (length (h .alphabet) + 7) out ≡ h .alphabet
+  pub held-letters : slice lettersPlace (length (h .alphabet) + lettersPlace) out ≡ h .alphabet
   unfolding lead field twoBytes slice
   held-letters =
       let all = lead h ++ (rest h accepting rows ++ drop (rowPlace h rows) (h .old)) in
-      let n = length (h .alphabet) + 7 in
-      ap (λ (l : List ℕ). drop 7 (take n l)) held-lead
-      ∙ ap (drop 7) (take-at (lead h) (rest h accepting rows ++ drop (rowPlace h rows) (h .old)) n (length-lead h))
+      let n = length (h .alphabet) + lettersPlace in
+      ap (λ (l : List ℕ). drop lettersPlace (take n l)) held-lead
+      ∙ ap (drop lettersPlace) (take-at (lead h) (rest h accepting rows ++ drop (rowPlace h rows) (h .old)) n (length-lead h))
 
-  pub held-index : (b : ℕ) → indexOf b (slice 7 (length (h .alphabet) + 7) out) ≡ indexIn (h .alphabet) b
+  pub held-index : (b : ℕ) → indexOf b (slice lettersPlace (length (h .alphabet) + lettersPlace) out) ≡ indexIn (h .alphabet) b
   held-index b = ap (indexOf b) held-letters ∙ index-same (h .alphabet) b
 
 bits-more : (accepting bytes : List ℕ) (state : ℕ) → withBits bytes (accepting ++ (state ∷ [])) ≡ withBit (withBits bytes accepting) state
@@ -189,23 +190,23 @@ bits-more (x ∷ xs) bytes state = bits-more xs (withBit bytes x) state
 -- an accept bit is set in its part of the buffer
 pub marks-bit : (before after part : List ℕ) (letters from many state : ℕ)
     → Counts before letters
-    → from ≡ letters + 19
-    → many ≡ 16
+    → from ≡ acceptingPlace letters
+    → many ≡ acceptingBytes
     → part ≡ withBit (take many (drop from before)) state
     → after ≡ take from before ++ (part ++ drop many (drop from before))
     → Marks before after state
 unfolding written
 marks-bit before after part letters from many state count start sixteen part-is after-is =
-    record { marks = λ holds. mark _ _ _ holds (start ∙ ap (λ (n : ℕ). n + 19) (count .counts holds)) }
+    record { marks = λ holds. mark _ _ _ holds (start ∙ ap acceptingPlace (count .counts holds)) }
   where
     mark : (h : Sheet) (accepting : List ℕ) (rows : List Row)
         → Holds h accepting rows before
-        → from ≡ length (h .alphabet) + 19
+        → from ≡ acceptingPlace (length (h .alphabet))
         → Holds h (accepting ++ (state ∷ [])) rows after
     mark h accepting rows holds here =
-        let behind : List ℕ = (6 ∷ (twoBytes (8 * h .count) ++ rowsBytes rows)) ++ drop (rowPlace h rows) (h .old) in
+        let behind : List ℕ = (6 ∷ (twoBytes (rowWidth * h .count) ++ rowsBytes rows)) ++ drop (rowPlace h rows) (h .old) in
         let old : List ℕ = acceptBytes accepting in
-        let whole : before ≡ front h ++ (old ++ behind) = holds .bytes ∙ regroup (front h) old (6 ∷ (twoBytes (8 * h .count) ++ rowsBytes rows)) (drop (rowPlace h rows) (h .old)) in
+        let whole : before ≡ front h ++ (old ++ behind) = holds .bytes ∙ regroup (front h) old (6 ∷ (twoBytes (rowWidth * h .count) ++ rowsBytes rows)) (drop (rowPlace h rows) (h .old)) in
         let first : take from before ≡ front h = ap (take from) whole ∙ take-at (front h) (old ++ behind) from (length-front h ∙ sym here) in
         let later : drop from before ≡ old ++ behind = ap (drop from) whole ∙ drop-at (front h) (old ++ behind) from (length-front h ∙ sym here) in
         let sixteenth : length old ≡ many = length-accept accepting ∙ sym sixteen in
@@ -215,8 +216,8 @@ marks-bit before after part letters from many state count start sixteen part-is 
               ∙ (λ i. first i ++ (part-is i ++ drop many (later i)))
               ∙ (λ i. front h ++ (withBit (take many (later i)) state ++ drop-at old behind many sixteenth i))
               ∙ (λ i. front h ++ (withBit (take-at old behind many sixteenth i) state ++ behind))
-              ∙ ap (λ (l : List ℕ). front h ++ (l ++ behind)) (sym (bits-more accepting (replicate 16 0) state))
-              ∙ sym (regroup (front h) (acceptBytes (accepting ++ (state ∷ []))) (6 ∷ (twoBytes (8 * h .count) ++ rowsBytes rows)) (drop (rowPlace h rows) (h .old)));
+              ∙ ap (λ (l : List ℕ). front h ++ (l ++ behind)) (sym (bits-more accepting (replicate acceptingBytes 0) state))
+              ∙ sym (regroup (front h) (acceptBytes (accepting ++ (state ∷ []))) (6 ∷ (twoBytes (rowWidth * h .count) ++ rowsBytes rows)) (drop (rowPlace h rows) (h .old)));
           few = holds .few;
           room = holds .room;
           most = holds .most;
@@ -228,7 +229,7 @@ before-letters count = 1 ∷ 0 ∷ 1 ∷ 1 ∷ 2 ∷ 0 ∷ count ∷ []
 
 abbrev pub behind-letters : ℕ → ℕ → ℕ → ℕ → ℕ → List ℕ
 behind-letters stops highStates lowStates highSize lowSize =
-    3 ∷ 0 ∷ 1 ∷ stops ∷ 4 ∷ 0 ∷ 2 ∷ highStates ∷ lowStates ∷ 5 ∷ 0 ∷ 16
+    3 ∷ 0 ∷ 1 ∷ stops ∷ 4 ∷ 0 ∷ 2 ∷ highStates ∷ lowStates ∷ 5 ∷ 0 ∷ acceptingBytes
     ∷ 0 ∷ 0 ∷ 0 ∷ 0 ∷ 0 ∷ 0 ∷ 0 ∷ 0 ∷ 0 ∷ 0 ∷ 0 ∷ 0 ∷ 0 ∷ 0 ∷ 0 ∷ 0
     ∷ 6 ∷ highSize ∷ lowSize ∷ []
 
@@ -239,8 +240,8 @@ header-bytes : (h : Sheet) (k f s₁ s₂ n₁ n₂ : ℕ)
     → f ≡ flag (h .stops)
     → s₁ ≡ h .states / 256
     → s₂ ≡ h .states % 256
-    → n₁ ≡ 8 * h .count / 256
-    → n₂ ≡ 8 * h .count % 256
+    → n₁ ≡ rowWidth * h .count / 256
+    → n₂ ≡ rowWidth * h .count % 256
     → (before-letters k ++ h .alphabet) ++ behind-letters f s₁ s₂ n₁ n₂ ≡ written h [] []
 unfolding written front field twoBytes rowsBytes withBits
 header-bytes h k f s₁ s₂ n₁ n₂ few k-is f-is s₁-is s₂-is n₁-is n₂-is =
@@ -249,8 +250,8 @@ header-bytes h k f s₁ s₂ n₁ n₂ few k-is f-is s₁-is s₂-is n₁-is n�
     ∙ ap (λ (l : List ℕ). 1 ∷ 0 ∷ 1 ∷ 1 ∷ 2 ∷ length (h .alphabet) / 256 ∷ length (h .alphabet) % 256 ∷ l)
     (sym
     (append-assoc (h .alphabet)
-    (3 ∷ 0 ∷ 1 ∷ flag (h .stops) ∷ 4 ∷ 0 ∷ 2 ∷ h .states / 256 ∷ h .states % 256 ∷ 5 ∷ 0 ∷ 16 ∷ [])
-    (acceptBytes [] ++ (6 ∷ twoBytes (8 * h .count)))))
+    (3 ∷ 0 ∷ 1 ∷ flag (h .stops) ∷ 4 ∷ 0 ∷ 2 ∷ h .states / 256 ∷ h .states % 256 ∷ 5 ∷ 0 ∷ acceptingBytes ∷ [])
+    (acceptBytes [] ++ (6 ∷ twoBytes (rowWidth * h .count)))))
 
 pub heads : {before middle after : List ℕ} (count : ℕ) (stops : Bool) (states rows k f s₁ s₂ n₁ n₂ : ℕ)
     → (count ≤ 16) × (states ≤ 128) × (rows ≤ 1024) × (imageRoom ≤ length before)
@@ -258,40 +259,40 @@ pub heads : {before middle after : List ℕ} (count : ℕ) (stops : Bool) (state
     → f ≡ flag stops
     → s₁ ≡ states / 256
     → s₂ ≡ states % 256
-    → n₁ ≡ 8 * rows / 256
-    → n₂ ≡ 8 * rows % 256
+    → n₁ ≡ rowWidth * rows / 256
+    → n₂ ≡ rowWidth * rows % 256
     → middle ≡ over before 0 (before-letters k)
-    → after ≡ over middle (count + 7) (behind-letters f s₁ s₂ n₁ n₂)
+    → after ≡ over middle (count + lettersPlace) (behind-letters f s₁ s₂ n₁ n₂)
     → Heads before after count stops states rows
 heads {before} {middle} {after} count stops states rows k f s₁ s₂ n₁ n₂ bounds k-is f-is s₁-is s₂-is n₁-is n₂-is middle-is after-is =
     record { heads = head }
   where
     head : (old alphabet : List ℕ)
-        → before ≡ over old 7 alphabet
+        → before ≡ over old lettersPlace alphabet
         → count ≡ length alphabet
         → Holds (record { old = old; alphabet = alphabet; stops = stops; states = states; count = rows }) [] [] after
     head old alphabet before-is count-is =
         let h : Sheet = record { old = old; alphabet = alphabet; stops = stops; states = states; count = rows } in
         let new : List ℕ = behind-letters f s₁ s₂ n₁ n₂ in
         let lead : List ℕ = before-letters k ++ alphabet in
-        let size : length before ≡ length (take 7 old) + (length alphabet + (length old - (7 + length alphabet))) =
+        let size : length before ≡ length (take lettersPlace old) + (length alphabet + (length old - (lettersPlace + length alphabet))) =
         ap length before-is ∙ simp (length-append, length-drop)
         in
-        let long : 8246 ≤ length old = omega (arith, bounds, length-take 7 old) in
-        let seven : length (take 7 old) ≡ 7 = length-take-le 7 old (omega arith) in
-        let first : middle ≡ lead ++ drop (count + 7) old =
+        let long : 8246 ≤ length old = omega (arith, bounds, length-take lettersPlace old) in
+        let seven : length (take lettersPlace old) ≡ lettersPlace = length-take-le lettersPlace old (omega arith) in
+        let first : middle ≡ lead ++ drop (count + lettersPlace) old =
         middle-is
-        ∙ ap (λ (l : List ℕ). before-letters k ++ drop 7 l) before-is
-        ∙ ap (λ (l : List ℕ). before-letters k ++ l) (drop-at (take 7 old) (alphabet ++ drop (7 + length alphabet) old) 7 seven)
-        ∙ sym (append-assoc (before-letters k) alphabet (drop (7 + length alphabet) old))
+        ∙ ap (λ (l : List ℕ). before-letters k ++ drop lettersPlace l) before-is
+        ∙ ap (λ (l : List ℕ). before-letters k ++ l) (drop-at (take lettersPlace old) (alphabet ++ drop (lettersPlace + length alphabet) old) lettersPlace seven)
+        ∙ sym (append-assoc (before-letters k) alphabet (drop (lettersPlace + length alphabet) old))
         ∙ ap (λ (n : ℕ). lead ++ drop n old) (places count (length alphabet) count-is)
         in
         record {
           bytes =
               after-is
-              ∙ ap (λ (l : List ℕ). over l (count + 7) new) first
-              ∙ over-behind lead new old (count + 7) (omega (arith, length-append (before-letters k) alphabet))
-              ∙ ap (λ (l : List ℕ). l ++ drop (count + 7 + length new) old)
+              ∙ ap (λ (l : List ℕ). over l (count + lettersPlace) new) first
+              ∙ over-behind lead new old (count + lettersPlace) (omega (arith, length-append (before-letters k) alphabet))
+              ∙ ap (λ (l : List ℕ). l ++ drop (count + lettersPlace + length new) old)
               (header-bytes h k f s₁ s₂ n₁ n₂ (omega (arith, bounds)) (k-is ∙ ap (λ (n : ℕ). n % 256) count-is) f-is s₁-is s₂-is n₁-is n₂-is)
               ∙ ap (λ (n : ℕ). written h [] [] ++ drop n old) (ends count (length alphabet) count-is);
           few = omega (arith, bounds);
@@ -299,10 +300,10 @@ heads {before} {middle} {after} count stops states rows k f s₁ s₂ n₁ n₂ 
           most = bounds .2;
         }
       where
-        places : (m n : ℕ) → m ≡ n → 7 + n ≡ m + 7
+        places : (m n : ℕ) → m ≡ n → lettersPlace + n ≡ m + lettersPlace
         places m n e = omega arith
 
-        ends : (m n : ℕ) → m ≡ n → m + 7 + 31 ≡ n + 38 + 8 * 0
+        ends : (m n : ℕ) → m ≡ n → m + lettersPlace + 31 ≡ rowsPlace n + rowWidth * 0
         ends m n e = omega arith
 
 -- when all rows are there, it is the whole image
@@ -318,13 +319,13 @@ pub written-whole : (h : Sheet) (accepting : List ℕ) (rows : List Row)
     })
 unfolding written front encode field
 written-whole h accepting rows all =
-    let n : 8 * h .count ≡ length (rowsBytes rows) = omega (arith, length-rows rows) in
-    let m : 16 ≡ length (acceptBytes accepting) = sym (length-accept accepting) in
-    let a = field 1 (edition ∷ []) in
+    let n : rowWidth * h .count ≡ length (rowsBytes rows) = omega (arith, length-rows rows) in
+    let m : acceptingBytes ≡ length (acceptBytes accepting) = sym (length-accept accepting) in
+    let a = field 1 (firstEdition ∷ []) in
     let b = field 2 (h .alphabet) in
     let c = field 3 (flag (h .stops) ∷ []) in
     let d = field 4 (twoBytes (h .states)) in
-    in-order a b c d (5 ∷ twoBytes 16) (acceptBytes accepting ++ (6 ∷ (twoBytes (8 * h .count) ++ rowsBytes rows)))
+    in-order a b c d (5 ∷ twoBytes acceptingBytes) (acceptBytes accepting ++ (6 ∷ (twoBytes (rowWidth * h .count) ++ rowsBytes rows)))
     ∙ (λ i. a ++ (b ++ (c ++ (d ++ (5 ∷ (twoBytes (m i) ++ (acceptBytes accepting ++ (6 ∷ (twoBytes (n i) ++ rowsBytes rows)))))))))
     ∙ ap (λ (l : List ℕ). a ++ (b ++ (c ++ (d ++ (5 ∷ l)))))
     (sym (append-assoc (twoBytes (length (acceptBytes accepting))) (acceptBytes accepting) (field 6 (rowsBytes rows))))

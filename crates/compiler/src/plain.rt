@@ -9,6 +9,7 @@ use super::see::number;
 use super::see::past;
 use super::see::see;
 use super::write;
+use table::form;
 use text::Sign;
 use text::Word;
 
@@ -26,7 +27,16 @@ fn step(
     ensures { λ r. ⌜ WritesStep (now (text .entry)) (now (out .entry)) (now (out .exit)) place at many motion change r ⌝ }
 {
     let to = place.next;
-    let row = write::row(out, place.row, place.state, 18, 2, motion, change, to);
+    let row = write::row(
+        out,
+        place.row,
+        place.state,
+        form::ANY_SYMBOL,
+        form::EITHER_COUNTER,
+        motion,
+        change,
+        to,
+    );
     Place {
         at: past(text, at, many),
         state: to,
@@ -45,10 +55,26 @@ pub fn emit_move(text: &[u8], out: &mut [u8], place: Place) -> Place
     if let Sign::Minus = sign {
         let n = see(text, t.end);
         let value = number(text, n.start, n.end);
-        step(text, out, place, n.end, 2, 64 - value, 31)
+        step(
+            text,
+            out,
+            place,
+            n.end,
+            2,
+            form::NO_MOVE - value,
+            form::NO_CHANGE,
+        )
     } else {
         let value = number(text, t.start, t.end);
-        step(text, out, place, t.end, 2, 64 + value, 31)
+        step(
+            text,
+            out,
+            place,
+            t.end,
+            2,
+            form::NO_MOVE + value,
+            form::NO_CHANGE,
+        )
     }
 }
 
@@ -60,11 +86,16 @@ pub fn emit_goto(text: &[u8], out: &mut [u8], place: Place) -> Place
     let t = see(text, past(text, place.at, 1));
     let word = t.word;
     if let Word::Lend = word {
-        step(text, out, place, t.end, 2, 0, 31)
+        step(text, out, place, t.end, 2, form::TO_LEFT, form::NO_CHANGE)
     } else {
-        step(text, out, place, t.end, 2, 128, 31)
+        step(text, out, place, t.end, 2, form::TO_RIGHT, form::NO_CHANGE)
     }
 }
+
+// A change by one.
+const UP: u8 = form::NO_CHANGE + 1;
+
+const DOWN: u8 = form::NO_CHANGE - 1;
 
 // c ++ ; and c -- ; and c += n ; and c -= n ;
 pub fn change(text: &[u8], out: &mut [u8], place: Place) -> Place
@@ -74,17 +105,33 @@ pub fn change(text: &[u8], out: &mut [u8], place: Place) -> Place
     let t = see(text, place.at);
     let sign = t.sign;
     match sign {
-        Sign::Increment => step(text, out, place, t.end, 1, 64, 32),
-        Sign::Decrement => step(text, out, place, t.end, 1, 64, 30),
+        Sign::Increment => step(text, out, place, t.end, 1, form::NO_MOVE, UP),
+        Sign::Decrement => step(text, out, place, t.end, 1, form::NO_MOVE, DOWN),
         Sign::Add => {
             let n = see(text, t.end);
             let value = number(text, n.start, n.end);
-            step(text, out, place, n.end, 1, 64, 31 + value)
+            step(
+                text,
+                out,
+                place,
+                n.end,
+                1,
+                form::NO_MOVE,
+                form::NO_CHANGE + value,
+            )
         }
         _ => {
             let n = see(text, t.end);
             let value = number(text, n.start, n.end);
-            step(text, out, place, n.end, 1, 64, 31 - value)
+            step(
+                text,
+                out,
+                place,
+                n.end,
+                1,
+                form::NO_MOVE,
+                form::NO_CHANGE - value,
+            )
         }
     }
 }

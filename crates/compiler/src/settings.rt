@@ -4,6 +4,7 @@ use super::Place;
 use super::see::past;
 use super::see::see;
 use super::write;
+use table::form;
 use text::Sign;
 use text::Word;
 
@@ -22,7 +23,7 @@ fn letters(text: &[u8], out: &mut [u8], from: usize) -> Listed
     let mut count = 0;
     loop {
         let letter = see(text, at);
-        out[count + 7] = letter.byte;
+        out[count + form::LETTERS_PLACE] = letter.byte;
         count += 1;
         let next = see(text, letter.end);
         at = next.end;
@@ -94,6 +95,6 @@ pub fn begin(text: &[u8], out: &mut [u8], states: usize, rows: usize) -> Place
         at: past(text, settled.at, 5),
         state: 0,
         next: 1,
-        row: settled.count + 38,
+        row: settled.count + form::ROWS_PLACE,
     }
 }

@@ -15,6 +15,7 @@ use super::see::past;
 use super::see::see;
 use super::write;
 use reader::AtomRead;
+use table::form;
 use text::Sign;
 
 // The code of what `read` is compared with.
@@ -24,10 +25,12 @@ fn code_of(out: &[u8], symbol: reader::Symbol) -> u8
 {
     match symbol {
         reader::Symbol::Letter { byte, place: _ } => write::letter(out, byte),
-        reader::Symbol::Lend => 16,
-        reader::Symbol::Rend => 17,
+        reader::Symbol::Lend => form::LEFT_MARK,
+        reader::Symbol::Rend => form::RIGHT_MARK,
     }
 }
+
+const LEFT_MARK: usize = form::LEFT_MARK as usize;
 
 // The symbols in order: the letters, the left mark, the right mark.
 fn nth(i: usize, letters: usize) -> u8
@@ -37,7 +40,7 @@ fn nth(i: usize, letters: usize) -> u8
     if i < letters {
         i as u8
     } else {
-        (i - letters + 16) as u8
+        (i - letters + LEFT_MARK) as u8
     }
 }
 
@@ -76,9 +79,9 @@ fn counter_row(out: &mut [u8], at: usize, from: usize, to: usize, is: bool) -> u
     ensures { λ r. ⌜ Writes (now (out .entry)) (now (out .exit)) at r (λ _. counterRows is from to) ⌝ }
 {
     if is {
-        write::test_row(out, at, from, 18, 0, to)
+        write::test_row(out, at, from, form::ANY_SYMBOL, form::ZERO_COUNTER, to)
     } else {
-        write::test_row(out, at, from, 18, 1, to)
+        write::test_row(out, at, from, form::ANY_SYMBOL, form::ABOVE_ZERO, to)
     }
 }
 
@@ -88,7 +91,7 @@ fn read_rows(out: &mut [u8], at: usize, from: usize, to: usize, code: u8, is: bo
     ensures { λ r. ⌜ Writes (now (out .entry)) (now (out .exit)) at r (λ alphabet. readRows alphabet is code from to) ⌝ }
 {
     if is {
-        write::test_row(out, at, from, code, 2, to)
+        write::test_row(out, at, from, code, form::EITHER_COUNTER, to)
     } else {
         others(out, at, from, to, code)
     }

@@ -1,5 +1,6 @@
 // The bytes of an image as they are written: the header, the rows one behind the other, a bit for each accepting state.
 // What stands there already is read back from it: the letters.
+use table::form;
 ghost use Prim.Native.Nat.{_+_, _≤_, _<_, _/_, _%_};
 ghost use mathlib.Core.Path.{_≡_};
 ghost use mathlib.Core.List.{[], _∷_};
@@ -38,14 +39,16 @@ fn put(out: &mut [u8], at: usize, bytes: &[u8])
     bytes::copy(bytes, &mut out[at..]);
 }
 
+const ACCEPTING: u8 = form::ACCEPTING_BYTES as u8;
+
 // Everything before the rows but the letters, which stand already. No state accepts yet.
 pub fn header(out: &mut [u8], count: usize, stops: bool, states: usize, rows: usize)
     requires { ⌜ (count ≤ 16) × (states ≤ 128) × (rows ≤ 1024) × (imageRoom ≤ length (now out)) ⌝ }
     ensures { λ _. ⌜ Heads (now (out .entry)) (now (out .exit)) count stops states rows ⌝ }
 {
-    let front = [1, 0, 1, 1, 2, 0, low(count)];
+    let front = [1, 0, 1, form::FIRST_EDITION, 2, 0, low(count)];
     put(out, 0, &front);
-    let size = 8 * rows;
+    let size = form::ROW_BYTES * rows;
     let back = [
         3,
         0,
@@ -58,7 +61,7 @@ pub fn header(out: &mut [u8], count: usize, stops: bool, states: usize, rows: us
         low(states),
         5,
         0,
-        16,
+        ACCEPTING,
         0,
         0,
         0,
@@ -79,7 +82,7 @@ pub fn header(out: &mut [u8], count: usize, stops: bool, states: usize, rows: us
         high(size),
         low(size),
     ];
-    put(out, count + 7, &back);
+    put(out, count + form::STOPS_TAG, &back);
 }
 
 // A row. The next one is written where it ends.
@@ -107,7 +110,7 @@ pub fn row(
         low(to),
     ];
     put(out, at, &bytes);
-    at + 8
+    at + form::ROW_BYTES
 }
 
 // A row that only tests.
@@ -115,7 +118,16 @@ pub fn test_row(out: &mut [u8], at: usize, from: usize, symbol: u8, test: u8, to
     requires { ⌜ Room (now out) at (λ _. testRow symbol test from to ∷ []) × (from ≤ 128) × (to ≤ 128) ⌝ }
     ensures { λ r. ⌜ Writes (now (out .entry)) (now (out .exit)) at r (λ _. testRow symbol test from to ∷ []) ⌝ }
 {
-    row(out, at, from, symbol, test, 64, 31, to)
+    row(
+        out,
+        at,
+        from,
+        symbol,
+        test,
+        form::NO_MOVE,
+        form::NO_CHANGE,
+        to,
+    )
 }
 
 // A row that is free.
@@ -123,7 +135,7 @@ pub fn free(out: &mut [u8], at: usize, from: usize, to: usize) -> usize
     requires { ⌜ Room (now out) at (λ _. free from to ∷ []) × (from ≤ 128) × (to ≤ 128) ⌝ }
     ensures { λ r. ⌜ Writes (now (out .entry)) (now (out .exit)) at r (λ _. free from to ∷ []) ⌝ }
 {
-    test_row(out, at, from, 18, 2, to)
+    test_row(out, at, from, form::ANY_SYMBOL, form::EITHER_COUNTER, to)
 }
 
 // How many letters the image has.
@@ -131,7 +143,7 @@ pub fn letters(out: &[u8]) -> usize
     requires { ⌜ Held (now out) ⌝ }
     ensures { λ r. ⌜ Counts (now (out .entry)) r ⌝ }
 {
-    out[6] as usize
+    out[form::COUNT_PLACE] as usize
 }
 
 // A letter's index among them.
@@ -139,8 +151,8 @@ pub fn letter(out: &[u8], byte: u8) -> u8
     requires { ⌜ Held (now out) ⌝ }
     ensures { λ r. ⌜ Indexes (now (out .entry)) byte r ⌝ }
 {
-    let end = letters(out) + 7;
-    (bytes::scan::find(out, 7, end, byte) - 7) as u8
+    let end = letters(out) + form::LETTERS_PLACE;
+    (bytes::scan::find(out, form::LETTERS_PLACE, end, byte) - form::LETTERS_PLACE) as u8
 }
 
 // A state's accept bit.
@@ -148,7 +160,7 @@ pub fn accept(out: &mut [u8], state: usize)
     requires { ⌜ Held (now out) ⌝ }
     ensures { λ _. ⌜ Marks (now (out .entry)) (now (out .exit)) state ⌝ }
 {
-    let from = letters(out) + 19;
-    let to = from + 16;
+    let from = letters(out) + form::ACCEPTING_PLACE;
+    let to = from + form::ACCEPTING_BYTES;
     bits::set_bit(&mut out[from..to], state);
 }

@@ -17,12 +17,9 @@ use Rattle.rule.specs.Limits.{value}
 use Rattle.rule.specs.Tree.{Number, SymbolName, letter, lend, rend, Atom, readIs, readIsNot, counterIs, counterIsNot}
 use Rattle.rule.specs.Meaning.{reads, atomHolds}
 use Rattle.rule.specs.Inside.Within.{SoughtWithin, AtomWithin}
+use Rattle.table.specs.Form.{leftMark, rightMark, anySymbol, eitherCounter}
 use Rattle.construction.specs.Construction.{
-  leftMark,
-  rightMark,
-  anySymbol,
   testRow,
-  eitherCounter,
   symbolRows,
   isRows,
   isNotRows,
@@ -87,10 +84,10 @@ any-symbol alphabet Cell.rightMark = refl
 
 module _ (alphabet : List ℕ) (few : length alphabet ≤ 16) where
   -- no letter has a mark's code
-  letter-no-mark : (b n : ℕ) → List·Memᴰ b alphabet → 16 ≤ n → false ≡ eqb (indexIn alphabet b) n
+  letter-no-mark : (b n : ℕ) → List·Memᴰ b alphabet → leftMark ≤ n → false ≡ eqb (indexIn alphabet b) n
   letter-no-mark b n m h = sym (ne-eqb (indexIn alphabet b) n (λ e. omega (arith, index-stands alphabet b m .below)))
 
-  mark-no-letter : (b n : ℕ) → List·Memᴰ b alphabet → 16 ≤ n → false ≡ eqb n (indexIn alphabet b)
+  mark-no-letter : (b n : ℕ) → List·Memᴰ b alphabet → leftMark ≤ n → false ≡ eqb n (indexIn alphabet b)
   mark-no-letter b n m h = letter-no-mark b n m h ∙ same-test (indexIn alphabet b) n n (indexIn alphabet b) sym sym
 
   same-index :
@@ -105,21 +102,21 @@ module _ (alphabet : List ℕ) (few : length alphabet ≤ 16) where
       → Known alphabet s
       → reads x s ≡ eqb (symbolCode alphabet x) (codeOf alphabet s)
   unfolding reads symbolCode SoughtWithin
-  reads-code (letter l) Cell.leftMark within known = letter-no-mark (l .byte) 16 within (omega arith)
+  reads-code (letter l) Cell.leftMark within known = letter-no-mark (l .byte) leftMark within (omega arith)
   reads-code (letter l) (Cell.letter b) within known =
       same-test (l .byte) b _ _ (λ e. ap (indexIn alphabet) e) (same-index (l .byte) b within known)
-  reads-code (letter l) Cell.rightMark within known = letter-no-mark (l .byte) 17 within (omega arith)
+  reads-code (letter l) Cell.rightMark within known = letter-no-mark (l .byte) rightMark within (omega arith)
   reads-code lend Cell.leftMark within known = refl
-  reads-code lend (Cell.letter b) within known = mark-no-letter b 16 known (omega arith)
+  reads-code lend (Cell.letter b) within known = mark-no-letter b leftMark known (omega arith)
   reads-code lend Cell.rightMark within known = refl
   reads-code rend Cell.leftMark within known = refl
-  reads-code rend (Cell.letter b) within known = mark-no-letter b 17 known (omega arith)
+  reads-code rend (Cell.letter b) within known = mark-no-letter b rightMark known (omega arith)
   reads-code rend Cell.rightMark within known = refl
 
   -- a row for a code fits just the symbol with that code
   module _ (different : List·Nodup alphabet) where
     fits-letter :
-        (y b : ℕ) → y ≢ 18 → List·Memᴰ b alphabet → symbolFits alphabet y (Cell.letter b) ≡ eqb y (indexIn alphabet b)
+        (y b : ℕ) → y ≢ anySymbol → List·Memᴰ b alphabet → symbolFits alphabet y (Cell.letter b) ≡ eqb y (indexIn alphabet b)
     unfolding symbolFits
     fits-letter y b any known = go (decLt y (length alphabet))
       where
@@ -128,25 +125,25 @@ module _ (alphabet : List ℕ) (few : length alphabet ≤ 16) where
 
         go : Dec (y < length alphabet) → symbolFits alphabet y (Cell.letter b) ≡ eqb y (indexIn alphabet b)
         go (yes h) =
-            rw (lt-ltb y (length alphabet) h, ne-eqb y 18 any)
+            rw (lt-ltb y (length alphabet) h, ne-eqb y anySymbol any)
             (or-false _ ∙ same-test (getD alphabet y 0) b y (indexIn alphabet b)
             (λ e. index-once alphabet y (indexIn alphabet b) different h (stands .below) (e ∙ sym (stands .finds)))
             (λ e. ap (λ (i : ℕ). getD alphabet i 0) e ∙ stands .finds))
         go (no h) =
-            rw (le-ltb y (length alphabet) (omega arith), ne-eqb y 18 any, ne-eqb y (indexIn alphabet b) (λ e. omega (arith, stands .below)))
+            rw (le-ltb y (length alphabet) (omega arith), ne-eqb y anySymbol any, ne-eqb y (indexIn alphabet b) (λ e. omega (arith, stands .below)))
 
     fits-code :
-        (y : ℕ) (s : Symbol) → y ≢ 18 → Known alphabet s → symbolFits alphabet y s ≡ eqb y (codeOf alphabet s)
+        (y : ℕ) (s : Symbol) → y ≢ anySymbol → Known alphabet s → symbolFits alphabet y s ≡ eqb y (codeOf alphabet s)
     unfolding symbolFits
-    fits-code y Cell.leftMark any known = rw (ne-eqb y 18 any) (or-false _)
+    fits-code y Cell.leftMark any known = rw (ne-eqb y anySymbol any) (or-false _)
     fits-code y (Cell.letter b) any known = fits-letter y b any known
-    fits-code y Cell.rightMark any known = rw (ne-eqb y 18 any) (or-false _)
+    fits-code y Cell.rightMark any known = rw (ne-eqb y anySymbol any) (or-false _)
 
     module _ (s : Symbol) (known : Known alphabet s) (counter p q : ℕ) where
       -- of the rows for a list of symbols, one fits just when what is read is in the list
       symbols-pass :
           (xs : List ℕ)
-          → Every (λ (y : ℕ). y ≢ 18) xs
+          → Every (λ (y : ℕ). y ≢ anySymbol) xs
           → List·Memᴰ (codeOf alphabet s) xs
           → LetsThrough alphabet s counter (symbolRows xs p q)
       symbols-pass xs f m =
@@ -159,7 +156,7 @@ module _ (alphabet : List ℕ) (few : length alphabet ≤ 16) where
 
       pass-symbols :
           (xs : List ℕ)
-          → Every (λ (y : ℕ). y ≢ 18) xs
+          → Every (λ (y : ℕ). y ≢ anySymbol) xs
           → LetsThrough alphabet s counter (symbolRows xs p q)
           → List·Memᴰ (codeOf alphabet s) xs
       pass-symbols xs f pass =
@@ -169,17 +166,17 @@ module _ (alphabet : List ℕ) (few : length alphabet ≤ 16) where
           Memᴰ·cast (sym (eqb-true y (codeOf alphabet s) (sym (fits-code y s (f .at y (found .1)) known) ∙ fits))) (found .1)
 
       -- `==` and `!=`
-      code-not-any : Every (λ (y : ℕ). y ≢ 18) (allSymbols alphabet)
+      code-not-any : Every (λ (y : ℕ). y ≢ anySymbol) (allSymbols alphabet)
       code-not-any =
           every-append (countUp 0 (length alphabet))
           (record { at = λ y m e. omega (arith, countUp-mem (length alphabet) 0 y m) })
           (every-cons (omega arith) (every-cons (omega arith) every-nil))
 
       module _ (x : SymbolName) (within : SoughtWithin alphabet x) where
-        one-not-any : Every (λ (y : ℕ). y ≢ 18) (symbolCode alphabet x ∷ [])
+        one-not-any : Every (λ (y : ℕ). y ≢ anySymbol) (symbolCode alphabet x ∷ [])
         one-not-any = every-cons (code-not-any .at (symbolCode alphabet x) (code-mem alphabet x within)) every-nil
 
-        others-not-any : Every (λ (y : ℕ). y ≢ 18) (without (symbolCode alphabet x) (allSymbols alphabet))
+        others-not-any : Every (λ (y : ℕ). y ≢ anySymbol) (without (symbolCode alphabet x) (allSymbols alphabet))
         others-not-any =
             record { at = λ y m. code-not-any .at y (without-mem (symbolCode alphabet x) y (allSymbols alphabet) m .1) }
 

@@ -49,8 +49,8 @@ use Rattle.rule.specs.Tree.{
   moreArms,
 }
 use Rattle.rule.specs.Inside.Within.{SoughtWithin, AtomWithin, ConditionWithin, PlainWithin, StatementWithin, RestWithin, StatementsWithin, ArmsWithin}
+use Rattle.table.specs.Form.{anySymbol, eitherCounter, toRight, mostChange}
 use Rattle.construction.specs.Construction.{
-  anySymbol,
   testRow,
   free,
   moveCode,
@@ -85,9 +85,9 @@ use Rattle.construction.proofs.Parts.{leads-walk, statement-lone}
 -- with k letters
 pub record CodesIn (k : ℕ) (r : Row) : Type 0 where
   pub symbol : SymbolCode k (r .symbol)
-  pub test : r .test ≤ 2
-  pub move : r .move ≤ 128
-  pub change : r .change ≤ 62
+  pub test : r .test ≤ eitherCounter
+  pub move : r .move ≤ toRight
+  pub change : r .change ≤ mostChange
 
 -- and leading to a state below a limit
 pub record Fine (k limit : ℕ) (r : Row) : Type 0 where
@@ -95,17 +95,17 @@ pub record Fine (k limit : ℕ) (r : Row) : Type 0 where
   pub to : r .to < limit
 
 -- a row that only tests
-test-codes : {k symbol test p q : ℕ} → SymbolCode k symbol → test ≤ 2 → CodesIn k (testRow symbol test p q)
+test-codes : {k symbol test p q : ℕ} → SymbolCode k symbol → test ≤ eitherCounter → CodesIn k (testRow symbol test p q)
 test-codes s t = record { symbol = s; test = t; move = omega arith; change = omega arith }
 
-any-codes : {k test p q : ℕ} → test ≤ 2 → CodesIn k (testRow 18 test p q)
+any-codes : {k test p q : ℕ} → test ≤ eitherCounter → CodesIn k (testRow anySymbol test p q)
 any-codes t = test-codes (inr (omega arith)) t
 
 plain-codes : {k p q : ℕ} (e : Plain) → PlainWithin e → CodesIn k (plainRow e p q)
 unfolding PlainWithin moveCode changeCode
 plain-codes e within = record { symbol = inr (omega arith); test = omega arith; move = moves e within; change = changes e within }
   where
-    moves : (e : Plain) → PlainWithin e → moveCode e ≤ 128
+    moves : (e : Plain) → PlainWithin e → moveCode e ≤ toRight
     moves (moveBy n) h = omega arith
     moves (moveBack n) h = omega arith
     moves gotoLend h = omega arith
@@ -115,7 +115,7 @@ plain-codes e within = record { symbol = inr (omega arith); test = omega arith; 
     moves (add n) h = omega arith
     moves (subtract n) h = omega arith
 
-    changes : (e : Plain) → PlainWithin e → changeCode e ≤ 62
+    changes : (e : Plain) → PlainWithin e → changeCode e ≤ mostChange
     changes (moveBy n) h = omega arith
     changes (moveBack n) h = omega arith
     changes gotoLend h = omega arith
@@ -153,7 +153,7 @@ module _ (alphabet : List ℕ) where
   isNot-rows x p q =
       symbol-rows _ p q (record { at = λ y m. all-codes .at y (without-mem (symbolCode alphabet x) y (allSymbols alphabet) m .1) })
 
-  counter-rows : {n p q : ℕ} → n ≤ 2 → Every (CodesIn (length alphabet)) (testRow anySymbol n p q ∷ [])
+  counter-rows : {n p q : ℕ} → n ≤ eitherCounter → Every (CodesIn (length alphabet)) (testRow anySymbol n p q ∷ [])
   counter-rows h = every-cons (any-codes h) every-nil
 
   atom-codes :

@@ -31,10 +31,8 @@ use Rattle.rule.specs.Tree.{
 use Rattle.rule.specs.Limits.{value}
 use Rattle.rule.specs.Meaning.{cellAfter, lowered, counterAfter}
 use Rattle.rule.specs.Inside.Within.{PlainWithin, ConditionWithin}
+use Rattle.table.specs.Form.{anySymbol, noMove, noChange, toLeft, toRight}
 use Rattle.construction.specs.Construction.{
-  anySymbol,
-  noMove,
-  noChange,
   testRow,
   moveCode,
   changeCode,
@@ -46,11 +44,11 @@ use Rattle.construction.proofs.Every.{Every, every-nil, every-cons}
 use Rattle.construction.proofs.Codes.{walk-every}
 
 module _ (word : List ℕ) where
-  -- a move by code - 64
+  -- a move by what the code is above or below `noMove`
   moved-by :
-      (code cell : ℕ) → 0 < code → code < 128 → moved word code cell ≡ min (min cell (last word) + code - 64) (last word)
+      (code cell : ℕ) → toLeft < code → code < toRight → moved word code cell ≡ min (min cell (last word) + code - noMove) (last word)
   unfolding moved
-  moved-by code cell h k = rw (ne-eqb code 0 (omega arith), ne-eqb code 128 (omega arith))
+  moved-by code cell h k = rw (ne-eqb code toLeft (omega arith), ne-eqb code toRight (omega arith))
 
   -- a row that does not move
   pub stays : (cell : ℕ) → cell ≤ last word → moved word noMove cell ≡ cell
@@ -82,22 +80,22 @@ module _ (word : List ℕ) where
   plain-inside (subtract n) cell inside = inside
 
 module _ (stops : Bool) where
-  -- a change by code - 31, up and down
+  -- a change by what the code is above or below `noChange`
   raises : (n counter : ℕ) → changed stops (noChange + n) counter ≡ some (counter + n)
   unfolding changed
   raises n counter =
-      let sum : counter + (noChange + n) - 31 ≡ counter + n = omega arith in
-      rw (le-leb 31 (counter + (noChange + n)) (omega arith), sum)
+      let sum : counter + (noChange + n) - noChange ≡ counter + n = omega arith in
+      rw (le-leb noChange (counter + (noChange + n)) (omega arith), sum)
 
-  lowers : (n counter : ℕ) → n ≤ 31 → changed stops (noChange - n) counter ≡ lowered stops n counter
+  lowers : (n counter : ℕ) → n ≤ noChange → changed stops (noChange - n) counter ≡ lowered stops n counter
   unfolding changed lowered
   lowers n counter h = go (decLe n counter)
     where
       go : Dec (n ≤ counter) → changed stops (noChange - n) counter ≡ lowered stops n counter
       go (yes k) =
-          let difference : counter + (noChange - n) - 31 ≡ counter - n = omega arith in
-          rw (le-leb 31 (counter + (noChange - n)) (omega arith), le-leb n counter k, difference)
-      go (no k) = rw (lt-leb 31 (counter + (noChange - n)) (omega arith), lt-leb n counter (omega arith))
+          let difference : counter + (noChange - n) - noChange ≡ counter - n = omega arith in
+          rw (le-leb noChange (counter + (noChange - n)) (omega arith), le-leb n counter k, difference)
+      go (no k) = rw (lt-leb noChange (counter + (noChange - n)) (omega arith), lt-leb n counter (omega arith))
 
   -- a row that does not change the counter
   pub keeps : (counter : ℕ) → changed stops noChange counter ≡ some counter

@@ -6,6 +6,7 @@ use mathlib.Core.Logic.{_⊎_, inl, inr}
 use mathlib.Core.Bool.{Bool, true, false, true≢false}
 use mathlib.Core.List.{List, [], _∷_, List·Memᴰ, List·Memᴰ·head, List·Memᴰ·tail, List·Memᴰ·not-nil, List·Memᴰ·cases-cons}
 use lib.ListN.{length, replicate, length-replicate}
+use Rattle.table.specs.Form.{acceptingBytes}
 use Rattle.bits.specs.Bit.{bit, withBit, Bytes}
 use Rattle.bits.proofs.Change.{bit-zeros, bit-set, bit-set-other, bit-set-kept, length-withBit, bytes-withBit}
 use Rattle.rule.specs.Limits.{isIn}
@@ -61,5 +62,5 @@ bits-only ss n s one = go (isIn s ss) refl
         absurd (omega arith)
 
 -- the sixteen accept bytes are sixteen, whichever bits are set
-pub length-accept : (accepting : List ℕ) → length (withBits (replicate 16 0) accepting) ≡ 16
-length-accept accepting = length-withBits accepting (replicate {A = ℕ} 16 0) ∙ length-replicate {A = ℕ} 16 0
+pub length-accept : (accepting : List ℕ) → length (withBits (replicate acceptingBytes 0) accepting) ≡ acceptingBytes
+length-accept accepting = length-withBits accepting (replicate {A = ℕ} acceptingBytes 0) ∙ length-replicate {A = ℕ} acceptingBytes 0

@@ -32,15 +32,13 @@ use Rattle.cells.specs.Cell as Cell
 use Rattle.cells.specs.Cell.{Symbol}
 use Rattle.rule.specs.Tree.{SymbolName, letter, lend, rend}
 use Rattle.rule.specs.Inside.Within.{SoughtWithin}
+use Rattle.table.specs.Form.{leftMark, rightMark, eitherCounter}
 use Rattle.construction.specs.Construction.{
-  leftMark,
-  rightMark,
   indexIn,
   symbolCode,
   countUp,
   allSymbols,
   without,
-  eitherCounter,
   testRow,
   symbolRows,
 }
@@ -200,12 +198,12 @@ unfolding countUp
 nodup-symbols alphabet few =
     nodup-append .1 (
       nodup-countUp (length alphabet) 0,
-      nodup-countUp 2 16,
+      nodup-countUp 2 leftMark,
       λ a m n. ∥∥₁-elim m ⊥-prop (λ d. ∥∥₁-elim n ⊥-prop (apart a d)),
     )
   where
-    apart : (a : ℕ) → List·Memᴰ a (countUp 0 (length alphabet)) → List·Memᴰ a (countUp 16 2) → ⊥
-    apart a d e = omega (arith, countUp-mem (length alphabet) 0 a d, countUp-mem 2 16 a e)
+    apart : (a : ℕ) → List·Memᴰ a (countUp 0 (length alphabet)) → List·Memᴰ a (countUp leftMark 2) → ⊥
+    apart a d e = omega (arith, countUp-mem (length alphabet) 0 a d, countUp-mem 2 leftMark a e)
 
 -- what is read is a mark or a letter of the alphabet
 abbrev pub Known : List ℕ → Symbol → Type 0

@@ -7,6 +7,7 @@ use mathlib.Core.List.{[], append-nil, List·Memᴰ}
 use lib.ListN.{length, replicate, length-replicate}
 use lib.Dec.{T}
 use Rattle.bits.specs.Byte.{isLetter}
+use Rattle.table.specs.Form.{acceptingBytes}
 use Rattle.table.specs.Table.{Row, Accepting}
 use Rattle.table.specs.WellFormed.{RowInRange, InRange}
 use Rattle.rule.specs.Tree.{Program, letterBytes}
@@ -47,7 +48,7 @@ from-below p r m = own-below (program-laid p .from .at r m) (program-grows p) (l
 -- a state that accepts in the table is one that the construction makes accepting
 pub accepts-listed : (p : Program) (s : ℕ) → Accepting (construct p) s → List·Memᴰ s (programPart p .accepting)
 unfolding construct
-accepts-listed p s one = bits-only (programPart p .accepting) 16 s one
+accepts-listed p s one = bits-only (programPart p .accepting) acceptingBytes s one
 
 -- and each of those accepts
 pub listed-accepts :
@@ -55,7 +56,7 @@ pub listed-accepts :
 unfolding construct
 listed-accepts p s few m =
     let below = accepting-below p s m in
-    bits-in (programPart p .accepting) (replicate 16 0) s (simp length-replicate (omega arith)) m
+    bits-in (programPart p .accepting) (replicate acceptingBytes 0) s (simp length-replicate (omega arith)) m
 
 -- no row starts from an accepting state
 pub no-row-accepts : (p : Program) (r : Row) → List·Memᴰ r (construct p .rows) → ¬ Accepting (construct p) (r .from)
@@ -100,9 +101,9 @@ module _ (p : Program) (none : faults p ≡ []) where
         different = within .different;
         someState = program-grows p;
         fewStates = states;
-        sixteen = length-withBits (programPart p .accepting) (replicate 16 0);
-        bytes = bytes-withBits (programPart p .accepting) (replicate 16 0) (bytes-zeros 16);
-        noOtherBit = λ s h. bits-zero (programPart p .accepting) 16 s (λ m. omega (arith, accepting-below p s m));
+        sixteen = length-withBits (programPart p .accepting) (replicate acceptingBytes 0);
+        bytes = bytes-withBits (programPart p .accepting) (replicate acceptingBytes 0) (bytes-zeros acceptingBytes);
+        noOtherBit = λ s h. bits-zero (programPart p .accepting) acceptingBytes s (λ m. omega (arith, accepting-below p s m));
         fewRows = rows;
         rows = row-in-range;
       }

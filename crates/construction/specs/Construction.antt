@@ -6,6 +6,7 @@ use mathlib.Core.List.{List, [], _∷_, _++_}
 use lib.ListN.{length, replicate}
 use lib.Dec.{eqb}
 use Rattle.bits.specs.Bit.{withBit}
+use Rattle.table.specs.Form.{leftMark, rightMark, anySymbol, zeroCounter, aboveZero, eitherCounter, toLeft, noMove, toRight, noChange, acceptingBytes}
 use Rattle.table.specs.Table.{Row, Table}
 use Rattle.rule.specs.Tree.{
   SymbolName,
@@ -54,25 +55,6 @@ use Rattle.rule.specs.Tree.{
 }
 use Rattle.rule.specs.Limits.{value}
 
--- the codes of a row
-abbrev pub leftMark : ℕ
-leftMark = 16
-
-abbrev pub rightMark : ℕ
-rightMark = 17
-
-abbrev pub anySymbol : ℕ
-anySymbol = 18
-
-abbrev pub eitherCounter : ℕ
-eitherCounter = 2
-
-abbrev pub noMove : ℕ
-noMove = 64
-
-abbrev pub noChange : ℕ
-noChange = 31
-
 -- a row that only tests, and one that is free
 abbrev pub testRow : ℕ → ℕ → ℕ → ℕ → Row
 testRow symbol test p q =
@@ -85,8 +67,8 @@ free p q = testRow anySymbol eitherCounter p q
 unfoldable pub moveCode : Plain → ℕ
 moveCode (moveBy n) = noMove + value n
 moveCode (moveBack n) = noMove - value n
-moveCode gotoLend = 0
-moveCode gotoRend = 128
+moveCode gotoLend = toLeft
+moveCode gotoRend = toRight
 moveCode increment = noMove
 moveCode decrement = noMove
 moveCode (add n) = noMove
@@ -146,10 +128,10 @@ atomRows alphabet true (readIs x) p q = isRows alphabet x p q
 atomRows alphabet false (readIs x) p q = isNotRows alphabet x p q
 atomRows alphabet true (readIsNot x) p q = isNotRows alphabet x p q
 atomRows alphabet false (readIsNot x) p q = isRows alphabet x p q
-atomRows alphabet true (counterIs n) p q = testRow anySymbol 0 p q ∷ []
-atomRows alphabet false (counterIs n) p q = testRow anySymbol 1 p q ∷ []
-atomRows alphabet true (counterIsNot n) p q = testRow anySymbol 1 p q ∷ []
-atomRows alphabet false (counterIsNot n) p q = testRow anySymbol 0 p q ∷ []
+atomRows alphabet true (counterIs n) p q = testRow anySymbol zeroCounter p q ∷ []
+atomRows alphabet false (counterIs n) p q = testRow anySymbol aboveZero p q ∷ []
+atomRows alphabet true (counterIsNot n) p q = testRow anySymbol aboveZero p q ∷ []
+atomRows alphabet false (counterIsNot n) p q = testRow anySymbol zeroCounter p q ∷ []
 
 -- what a condition adds
 pub record Added : Type 0 where
@@ -300,6 +282,6 @@ construct p =
       alphabet = letterBytes (p .alphabet);
       stops = p .stops;
       states = programPart p .next;
-      accepting = withBits (replicate 16 0) (programPart p .accepting);
+      accepting = withBits (replicate acceptingBytes 0) (programPart p .accepting);
       rows = programPart p .rows;
     }

@@ -9,8 +9,8 @@ use lib.Dec.{ltb}
 use borrow.Author.Tests.{ltb-true, ltb-false}
 use Rattle.bits.specs.Bit.{bit}
 use Rattle.table.proofs.Telling.{tells-no}
-use Rattle.table.specs.Table.{Accepting}
-use Rattle.table.specs.Fields.{tableOf, Tells}
+use Rattle.table.specs.Table.{Table, Accepting}
+use Rattle.table.specs.Fields.{Tells}
 use Rattle.judge.specs.Search.{situationOf, MarkedAccepts}
 use Rattle.judge.specs.Inner.{Quiet, FirstSet, AcceptsIn}
 
@@ -20,13 +20,13 @@ unfolding bit
 quiet-bit m from to i quiet low high one = omega (arith, rw (quiet .zero (i / 8) (omega arith) (omega arith), zero-div) at one)
 
 -- a state accepts in the marks if it accepts and one of its bits is set
-pub accepts-none : (image m : List ℕ) (state : ℕ) → ¬ Accepting (tableOf image) state → Tells false (AcceptsIn image m state)
-accepts-none image m state other = tells-no refl (λ a. other (a .accepting))
+pub accepts-none : (t : Table) (m : List ℕ) (state : ℕ) → ¬ Accepting t state → Tells false (AcceptsIn t m state)
+accepts-none t m state other = tells-no refl (λ a. other (a .accepting))
 
 pub accepts-first
-    : (image m : List ℕ) (state first : ℕ) → state < 128 → Accepting (tableOf image) state → FirstSet m (state * 256) (state * 256 + 256) first
-    → Tells (ltb first ((state * 256 + 256) * 8)) (AcceptsIn image m state)
-accepts-first image m state first low accepting found = record {
+    : (t : Table) (m : List ℕ) (state first : ℕ) → state < 128 → Accepting t state → FirstSet m (state * 256) (state * 256 + 256) first
+    → Tells (ltb first ((state * 256 + 256) * 8)) (AcceptsIn t m state)
+accepts-first t m state first low accepting found = record {
   holds = λ e.
       let inside = ltb-true first ((state * 256 + 256) * 8) e in
       record { mark = first; low = omega arith; here = omega (arith, found .low); set = found .set inside; accepting = accepting };
@@ -35,18 +35,18 @@ accepts-first image m state first low accepting found = record {
       quiet-bit m (state * 256) (state * 256 + 256) (a .mark) (found .none (ltb-false first ((state * 256 + 256) * 8) e)) (omega arith) (omega arith) (a .set);
 }
 
-module _ {image m : List ℕ} where
+module _ {t : Table} {m : List ℕ} where
   -- a marked situation accepts if a state accepts in the marks
-  pub accepted-in : {state : ℕ} → AcceptsIn image m state → MarkedAccepts image m
+  pub accepted-in : {state : ℕ} → AcceptsIn t m state → MarkedAccepts t m
   accepted-in a = record {
     mark = a .mark;
     low = a .low;
     set = a .set;
-    accepting = subst (Accepting (tableOf image)) (sym (a .here)) (a .accepting);
+    accepting = subst (Accepting t) (sym (a .here)) (a .accepting);
   }
 
   -- and none does if none of the 128 states does
-  pub accepted-nowhere : (many : ℕ) → 128 ≤ many → ((s : ℕ) → s < many → ¬ AcceptsIn image m s) → ¬ MarkedAccepts image m
+  pub accepted-nowhere : (many : ℕ) → 128 ≤ many → ((s : ℕ) → s < many → ¬ AcceptsIn t m s) → ¬ MarkedAccepts t m
   accepted-nowhere many all none a =
       none (situationOf (a .mark) .state) (omega (arith, a .low)) (record {
         mark = a .mark;

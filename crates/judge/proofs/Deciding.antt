@@ -1,10 +1,10 @@
 -- The judge's answer from its parts: a refusal with the marks as they were, or a verdict with its count and marks.
 use Prim.Native.Nat.{ℕ}
-use native.Mathlib.Omega.{arith}
 use mathlib.Core.Path.{_≡_}
 use mathlib.Core.List.{List}
 use Rattle.table.specs.Fields.{tableOf}
-use Rattle.table.proofs.Encoded.{image-tail}
+use Rattle.table.specs.declared.source.Source.the-variants.{Image}
+use Rattle.table.proofs.Showing.{image-sources}
 use Rattle.judgement.specs.Judge.{Judgeable, judged, refused, answerNumber, Judges}
 use Rattle.judge.specs.Inner.{RefusedAs, Undecided, Decided}
 
@@ -20,7 +20,7 @@ module _ {image word : List ℕ} {limit : ℕ} {before after : List ℕ} where
 
   -- and so is a verdict with its count
   pub judges-decided
-      : {r : ℕ} → Judgeable (tableOf image) image word limit before → Decided image word limit after r → Judges image word limit before after r
+      : {r : ℕ} → Judgeable (tableOf image) image word limit before → Decided (tableOf image) word limit after r → Judges image word limit before after r
   unfolding answerNumber
   judges-decided {r} judgeable decided = record {
     answer = judged (decided .verdict) (decided .many);
@@ -36,13 +36,9 @@ module _ {image word : List ℕ} {limit : ℕ} {before after : List ℕ} where
 
 -- what is judged is what is searched
 pub judgeable-undecided
-    : {image word : List ℕ} {limit : ℕ} {before : List ℕ} → Judgeable (tableOf image) image word limit before → Undecided image word limit before
+    : {image word : List ℕ} {limit : ℕ} {before : List ℕ} → Judgeable (tableOf image) image word limit before → Undecided (tableOf image) image Image word limit before
 judgeable-undecided j = record {
-  ready = record {
-    range = j .admitted .isImage .inRange;
-    long = omega (arith, image-tail (j .admitted .isImage) .end);
-    short = j .admitted .short;
-    low = j .admitted .low;
-  };
+  ready = record { range = j .admitted .isImage .inRange; short = j .admitted .short; low = j .admitted .low };
+  sources = image-sources (j .admitted .isImage);
   room = j .room;
 }

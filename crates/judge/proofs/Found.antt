@@ -12,9 +12,9 @@ use Rattle.bits.specs.Size.{Size}
 use Rattle.ones.specs.Ones.{Ones}
 use Rattle.bits.proofs.Change.{bit-take-low, bit-zeros}
 use Rattle.bits.proofs.Size.{size-numbered}
-use Rattle.table.specs.Table.{Accepting}
-use Rattle.table.proofs.RowList.{rows-number}
-use Rattle.table.specs.Fields.{tableOf, rowOf, Tells}
+use Rattle.table.specs.Table.{Table, Accepting}
+use Rattle.table.specs.Fields.{Tells}
+use Rattle.table.specs.declared.source.Source.{Source}
 use Rattle.machine.specs.Step.{Situation, Takes, Step}
 use Rattle.machine.specs.Run.{Reach, begins, goes, Accepts, Passes}
 use Rattle.judgement.specs.Verdict.{verdictNumber, IsVerdict}
@@ -24,37 +24,36 @@ use Rattle.judge.specs.Inner.{verdictOf, Unmarked, Undecided, Decided}
 use Rattle.judgement.proofs.Marks.{reached-has-mark, mark-below, mark-of}
 use Rattle.judgement.proofs.Counted.{ones-reached}
 
-module _ {image w : List ℕ} {L : ℕ} {m : List ℕ} {over : Bool} (found : Searched image w L m over) where
+module _ {t : Table} {w : List ℕ} {L : ℕ} {m : List ℕ} {over : Bool} (found : Searched t w L m over) where
   -- nothing is pending
   none-pending : (i : ℕ) → bit m (i + situations) ≡ 0
   unfolding bit
   none-pending i = rw (found .rest ((i + situations) / 8) (omega arith), zero-div) refl
 
-  has-mark : {s : Situation} → Reach (tableOf image) w L s → HasMark s
+  has-mark : {s : Situation} → Reach t w L s → HasMark s
   has-mark = reached-has-mark (found .between .ready .range) (found .between .ready .short) (found .between .ready .low)
 
   -- every row of a reached situation is done with
-  row-of : {s u : Situation} → Reach (tableOf image) w L s → bit m (markOf s) ≡ 1 → Step (tableOf image) w s u
+  row-of : {s u : Situation} → Reach t w L s → bit m (markOf s) ≡ 1 → Step t w s u
       → (u .counter ≤ L → bit m (markOf u) ≡ 1) × (L < u .counter → over ≡ true)
   row-of {s} {u} reached one step =
       let has = has-mark reached in
-      let number = rows-number image (step .listed) in
-      let done = found .between .followed (markOf s) (number .0) (mark-below has) (record { reached = one; notPending = none-pending (markOf s) }) (number .1) (λ e. absurd (omega (arith, mark-below has))) in
-      let takes : Takes (tableOf image) w (rowOf image (number .0)) (situationOf (markOf s)) u = rw (mark-of has, ← (number .2)) (step .takes) in
+      let done = found .between .followed (markOf s) (step .row) (mark-below has) (record { reached = one; notPending = none-pending (markOf s) }) (step .listed) (λ e. absurd (omega (arith, mark-below has))) in
+      let takes : Takes t w (step .row) (situationOf (markOf s)) u = rw (mark-of has) (step .takes) in
       (done .within u takes, done .above u takes)
 
   -- whatever is reached is marked
-  pub reached-marked : {s : Situation} → Reach (tableOf image) w L s → bit m (markOf s) ≡ 1
+  pub reached-marked : {s : Situation} → Reach t w L s → bit m (markOf s) ≡ 1
   unfolding markOf
   reached-marked begins = found .between .begun
   reached-marked (goes before step low) = row-of before (reached-marked before) step .0 low
 
   -- and whatever is marked is reached
-  pub marked-reached : (s : Situation) → HasMark s → bit m (markOf s) ≡ 1 → Reach (tableOf image) w L s
-  marked-reached s has one = subst (Reach (tableOf image) w L) (mark-of has) (found .between .sound (markOf s) (mark-below has) one)
+  pub marked-reached : (s : Situation) → HasMark s → bit m (markOf s) ≡ 1 → Reach t w L s
+  marked-reached s has one = subst (Reach t w L) (mark-of has) (found .between .sound (markOf s) (mark-below has) one)
 
   -- so these are the marks
-  pub found-marks : Bytes m → Marks (tableOf image) w L m
+  pub found-marks : Bytes m → Marks t w L m
   found-marks bytes = record {
     size = found .between .room;
     bytes = bytes;
@@ -63,35 +62,35 @@ module _ {image w : List ℕ} {L : ℕ} {m : List ℕ} {over : Bool} (found : Se
   }
 
   -- a step above the limit was noted
-  passes-noted : Passes (tableOf image) w L → over ≡ true
+  passes-noted : Passes t w L → over ≡ true
   passes-noted p = row-of (p .reached) (reached-marked (p .reached)) (p .step) .1 (p .above)
 
   -- a marked situation that accepts is a run that does
-  accepts-found : MarkedAccepts image m → Accepts (tableOf image) w L
+  accepts-found : MarkedAccepts t m → Accepts t w L
   accepts-found a = record {
     situation = situationOf (a .mark);
     reached = found .between .sound (a .mark) (a .low) (a .set);
     accepting = a .accepting;
   }
 
-  found-accepts : Accepts (tableOf image) w L → MarkedAccepts image m
+  found-accepts : Accepts t w L → MarkedAccepts t m
   found-accepts a = let has = has-mark (a .reached) in record {
     mark = markOf (a .situation);
     low = mark-below has;
     set = reached-marked (a .reached);
-    accepting = subst (λ (s : Situation). Accepting (tableOf image) (s .state)) (sym (mark-of has)) (a .accepting);
+    accepting = subst (λ (s : Situation). Accepting t (s .state)) (sym (mark-of has)) (a .accepting);
   }
 
   -- its ones are as many as what is reached
-  pub found-count : {c : ℕ} → Bytes m → Ones (take firstHalf m) c → Size (Reach (tableOf image) w L) c
+  pub found-count : {c : ℕ} → Bytes m → Ones (take firstHalf m) c → Size (Reach t w L) c
   found-count bytes ones =
       let ready = found .between .ready in
       ones-reached (ready .range) (ready .short) (ready .low) (found-marks bytes) (ones .size)
 
 -- the two questions give the verdict
 pub found-verdict
-    : {image w : List ℕ} {L : ℕ} {m : List ℕ} (yes over : Bool) → Tells yes (MarkedAccepts image m) → Searched image w L m over
-    → IsVerdict (tableOf image) w L (verdictOf yes over)
+    : {t : Table} {w : List ℕ} {L : ℕ} {m : List ℕ} (yes over : Bool) → Tells yes (MarkedAccepts t m) → Searched t w L m over
+    → IsVerdict t w L (verdictOf yes over)
 unfolding verdictOf
 found-verdict true over tells found = accepts-found found (tells .holds refl)
 found-verdict false true tells found = (λ a. tells .fails refl (found-accepts found a), found .between .passed refl)
@@ -100,14 +99,16 @@ found-verdict false false tells found =
 
 -- marks that were cleared hold no bit
 pub cleared-unmarked
-    : {image w : List ℕ} {L : ℕ} {m m′ : List ℕ} → Undecided image w L m → m′ ≡ replicate (length m) 0 → Unmarked image w L m′
+    : {t : Table} {rows : List ℕ} {source : Source} {w : List ℕ} {L : ℕ} {m m′ : List ℕ} → Undecided t rows source w L m → m′ ≡ replicate (length m) 0
+    → Unmarked t rows source w L m′
 cleared-unmarked {m = m} undecided cleared = rw cleared (record {
   ready = undecided .ready;
+  sources = undecided .sources;
   room = length-replicate (length m) 0 ∙ undecided .room;
   empty = bit-zeros (length m);
 })
 
-module _ {image w : List ℕ} {L : ℕ} {m : List ℕ} {over : Bool} (found : Searched image w L m over) where
+module _ {t : Table} {w : List ℕ} {L : ℕ} {m : List ℕ} {over : Bool} (found : Searched t w L m over) where
   -- the first half is as long as it should be
   pub half-length : length (take firstHalf m) ≡ firstHalf
   half-length = length-take-le firstHalf m (omega (arith, found .between .room))
@@ -122,8 +123,8 @@ module _ {image w : List ℕ} {L : ℕ} {m : List ℕ} {over : Bool} (found : Se
 
   -- the verdict, the count and the marks
   pub found-decided
-      : {yes : Bool} {number count : ℕ} → Tells yes (MarkedAccepts image m) → Ones (take markBytes (take firstHalf m)) count → Bytes m → number ≡ verdictNumber (verdictOf yes over)
-      → Decided image w L m (number * 1000000 + count)
+      : {yes : Bool} {number count : ℕ} → Tells yes (MarkedAccepts t m) → Ones (take markBytes (take firstHalf m)) count → Bytes m → number ≡ verdictNumber (verdictOf yes over)
+      → Decided t w L m (number * 1000000 + count)
   found-decided {yes} {number} {count} tells ones bytes is = record {
     verdict = verdictOf yes over;
     many = count;

@@ -4,27 +4,32 @@ use native.Mathlib.Omega.{arith}
 use mathlib.Core.Path.{_≡_}
 use mathlib.Core.Bool.{Bool, false}
 use mathlib.Core.List.{List}
+use Rattle.table.specs.Table.{Table}
+use Rattle.table.specs.Source.{Sources}
+use Rattle.table.specs.declared.source.Source.{Source}
 use Rattle.judge.specs.Search.{situations, marked, Between, Searched}
 use Rattle.judge.specs.Inner.{Picked, Waiting, Expanded, Unmarked}
 use Rattle.judge.proofs.Searching.{search-begins}
 use Rattle.judge.proofs.Left.{left, left-falls}
 
-module _ {image w : List ℕ} {L : ℕ} {m : List ℕ} where
+module _ {t : Table} {rows : List ℕ} {source : Source} {w : List ℕ} {L : ℕ} {m : List ℕ} where
   -- the start is marked
-  pub begins-between : {m′ : List ℕ} → Unmarked image w L m → m′ ≡ marked m 0 → Between image w L m′ false
+  pub begins-between : {m′ : List ℕ} → Unmarked t rows source w L m → m′ ≡ marked m 0 → Between t w L m′ false
   begins-between unmarked is = rw is (search-begins m (unmarked .ready) (unmarked .room) (unmarked .empty))
 
   -- a situation that is picked waits
-  pub picked-waiting : {over : Bool} {i : ℕ} → Between image w L m over → Picked m i → ¬ (i ≡ situations) → Waiting image w L m over i
-  picked-waiting {i = i} between picked some =
+  pub picked-waiting
+      : {over : Bool} {i : ℕ} → Sources t source rows → Between t w L m over → Picked m i → ¬ (i ≡ situations)
+      → Waiting t rows source w L m over i
+  picked-waiting {i = i} sources between picked some =
       let low : i < situations = omega (arith, picked .guess .high) in
-      record { between = between; low = low; waits = picked .guess .set low }
-
-  -- where none is picked, none waits
-  pub picked-none : {over : Bool} {i : ℕ} → Between image w L m over → Picked m i → i ≡ situations → Searched image w L m over
-  picked-none between picked none = record { between = between; rest = picked .none (omega arith) }
+      record { sources = sources; between = between; low = low; waits = picked .guess .set low }
 
   -- fewer are left
-  pub expand-falls : {m′ : List ℕ} {over past : Bool} {i : ℕ} → Waiting image w L m over i → Expanded image w L m m′ past i → left m′ < left m
+  pub expand-falls : {m′ : List ℕ} {over past : Bool} {i : ℕ} → Waiting t rows source w L m over i → Expanded t w L m m′ past i → left m′ < left m
   expand-falls {m′} {i = i} waiting done =
       left-falls m m′ (done .keeps) i (waiting .low) (λ f. omega (arith, f .notPending, waiting .waits)) (done .done)
+
+-- where none is picked, none waits
+pub picked-none : {t : Table} {w : List ℕ} {L : ℕ} {m : List ℕ} {over : Bool} {i : ℕ} → Between t w L m over → Picked m i → i ≡ situations → Searched t w L m over
+picked-none between picked none = record { between = between; rest = picked .none (omega arith) }

@@ -4,15 +4,14 @@ use native.Mathlib.Decide.{ℕ-discrete}
 use native.Mathlib.Omega.{arith}
 use mathlib.Core.Path.{_≡_, refl, sym, _∙_, subst}
 use mathlib.Core.Bool.{Bool, true, false, true≢false}
-use mathlib.Core.Logic.{_⊎_, ⊎-elim}
-use mathlib.Core.List.{List}
+use mathlib.Core.Logic.{_⊎_, inl, inr, ⊎-elim}
+use mathlib.Core.List.{List, List·Memᴰ}
 use lib.ListN.{length}
+use borrow.Author.Tests.{ne-eqb}
 use Rattle.bits.specs.Bit.{bit, withoutBit}
 use Rattle.bits.proofs.Change.{bit-cleared, bit-cleared-other, length-withoutBit}
 use Rattle.table.specs.Table.{Row, Table}
-use Rattle.table.proofs.RowList.{rows-in}
-use Rattle.table.specs.Fields.{tableOf, rowOf, rowCount}
-use Rattle.machine.specs.Step.{Situation, Takes, Step}
+use Rattle.machine.specs.Step.{Situation, rowFits, Takes, Step}
 use Rattle.machine.specs.Run.{Reach, begins, goes, Passes}
 use Rattle.machine.proofs.Steps.{takes-once, same-counter}
 use Rattle.judgement.specs.Marks.{markBytes, HasMark, markOf}
@@ -34,10 +33,21 @@ done-noted
     : {t : Table} {w : List ℕ} {L : ℕ} {m : List ℕ} {over : Bool} {s : Situation} {r : Row} → RowDone t w L m over s r → RowDone t w L m true s r
 done-noted d = record { within = d .within; above = λ u takes high. refl }
 
-module _ {image w : List ℕ} {L : ℕ} {m : List ℕ} {over : Bool} {current next : ℕ} (at : Searching image w L m over current next) where
+-- a row that can't be taken is done with
+done-never
+    : {t : Table} {w : List ℕ} {L : ℕ} {m : List ℕ} {over : Bool} {s : Situation} {r : Row} → ((u : Situation) → ¬ Takes t w r s u) → RowDone t w L m over s r
+done-never never = record { within = λ u takes low. absurd (never u takes); above = λ u takes high. absurd (never u takes) }
+
+-- a row out of another state can't
+pub other-state : {t : Table} {w : List ℕ} {r : Row} {s : Situation} → ¬ (r .from ≡ s .state) → (u : Situation) → ¬ Takes t w r s u
+unfolding rowFits
+other-state {t} {w} {r} {s} other u takes =
+    true≢false (sym (takes .fits) ∙ rw (ne-eqb (r .from) (s .state) other) refl)
+
+module _ {t : Table} {w : List ℕ} {L : ℕ} {m : List ℕ} {over : Bool} {current : ℕ} {Past : Row → Type 0} (at : Searching t w L m over current Past) where
   -- a reached situation may be marked
   pub mark-reached
-      : (i : ℕ) → i < situations → Reach (tableOf image) w L (situationOf i) → Searching image w L (marked m i) over current next
+      : (i : ℕ) → i < situations → Reach t w L (situationOf i) → Searching t w L (marked m i) over current Past
   mark-reached i low reached = record {
     ready = at .ready;
     room = length-marked m i ∙ at .room;
@@ -45,89 +55,105 @@ module _ {image w : List ℕ} {L : ℕ} {m : List ℕ} {over : Bool} {current ne
     sound = λ j lowj one. ⊎-elim (λ (e : j ≡ i). rw e reached) (at .sound j lowj) (marked-only m i j lowj one);
     pending = λ j lowj one.
         ⊎-elim (λ (e : j ≡ i). rw e (marked-set m i low (at .room))) (λ old. marked-kept m i j (at .pending j lowj old)) (marked-only-pending m i low j one);
-    followed = λ j n lowj f few rest.
-        done-kept (marked-kept m i) (at .followed j n lowj (marked-followed-before m i low (at .room) j lowj f) few rest);
+    followed = λ j r lowj f listed rest.
+        done-kept (marked-kept m i) (at .followed j r lowj (marked-followed-before m i low (at .room) j lowj f) listed rest);
     passed = at .passed;
   }
 
-  -- the next row of the current situation is done with
+  -- one row more of the current situation is done with
   row-done
-      : RowDone (tableOf image) w L m over (situationOf current) (rowOf image next) → Searching image w L m over current (next + 1)
-  row-done done = record {
+      : {Next : Row → Type 0} (r : Row) → ((q : Row) → Next q → Past q ⊎ (q ≡ r)) → RowDone t w L m over (situationOf current) r
+      → Searching t w L m over current Next
+  row-done {Next} r one done = record {
     ready = at .ready;
     room = at .room;
     begun = at .begun;
     sound = at .sound;
     pending = at .pending;
-    followed = λ j n lowj f few rest. go j n lowj f few rest (ℕ-discrete n next) (ℕ-discrete j current);
+    followed = λ j q lowj f listed rest. go j q lowj f listed rest (ℕ-discrete j current);
     passed = at .passed;
   }
     where
-      go : (j n : ℕ) → j < situations → Followed m j → n < rowCount image → (j ≡ current → n < next + 1)
-          → Dec (n ≡ next) → Dec (j ≡ current) → RowDone (tableOf image) w L m over (situationOf j) (rowOf image n)
-      go j n lowj f few rest (yes e) (yes e′) = rw (e, e′) done
-      go j n lowj f few rest (yes e) (no k) = at .followed j n lowj f few (λ e′. absurd (k e′))
-      go j n lowj f few rest (no k) d = at .followed j n lowj f few (λ e. omega (arith, rest e))
+      this : (j : ℕ) (q : Row) → j < situations → Followed m j → List·Memᴰ q (t .rows) → j ≡ current → Past q ⊎ (q ≡ r)
+          → RowDone t w L m over (situationOf j) q
+      this j q lowj f listed e (inl past) = at .followed j q lowj f listed (λ e′. past)
+      this j q lowj f listed e (inr same) = rw (e, same) done
+
+      go : (j : ℕ) (q : Row) → j < situations → Followed m j → List·Memᴰ q (t .rows) → (j ≡ current → Next q)
+          → Dec (j ≡ current) → RowDone t w L m over (situationOf j) q
+      go j q lowj f listed rest (yes e) = this j q lowj f listed e (one q (rest e))
+      go j q lowj f listed rest (no k) = at .followed j q lowj f listed (λ e. absurd (k e))
 
   -- a step above the limit may be noted
-  noted : Passes (tableOf image) w L → Searching image w L m true current next
+  noted : Passes t w L → Searching t w L m true current Past
   noted passes = record {
     ready = at .ready;
     room = at .room;
     begun = at .begun;
     sound = at .sound;
     pending = at .pending;
-    followed = λ j n low f few rest. done-noted (at .followed j n low f few rest);
+    followed = λ j r low f listed rest. done-noted (at .followed j r low f listed rest);
     passed = λ e. passes;
   }
 
   -- a row that can't be taken does nothing
   pub row-blocked
-      : ((u : Situation) → ¬ Takes (tableOf image) w (rowOf image next) (situationOf current) u) → Searching image w L m over current (next + 1)
-  row-blocked never = row-done (record { within = λ u takes low. absurd (never u takes); above = λ u takes high. absurd (never u takes) })
+      : {Next : Row → Type 0} (r : Row) → ((q : Row) → Next q → Past q ⊎ (q ≡ r)) → ((u : Situation) → ¬ Takes t w r (situationOf current) u)
+      → Searching t w L m over current Next
+  row-blocked r one never = row-done r one (done-never never)
 
-  -- after the last row the search is between two situations
-  pub rows-done : rowCount image ≤ next → Between image w L m over
-  rows-done many = record {
+  -- where every row out of the current situation's state is passed, the search is between two situations
+  pub rows-done : ((r : Row) → List·Memᴰ r (t .rows) → r .from ≡ situationOf current .state → Past r) → Between t w L m over
+  rows-done all = record {
     ready = at .ready;
     room = at .room;
     begun = at .begun;
     sound = at .sound;
     pending = at .pending;
-    followed = λ j n low f few rest. at .followed j n low f few (λ e. omega arith);
+    followed = λ j r low f listed rest. go j r low f listed (ℕ-discrete (r .from) (situationOf current .state)) (ℕ-discrete j current);
     passed = at .passed;
   }
+    where
+      go : (j : ℕ) (r : Row) → j < situations → Followed m j → List·Memᴰ r (t .rows) → Dec (r .from ≡ situationOf current .state)
+          → Dec (j ≡ current) → RowDone t w L m over (situationOf j) r
+      go j r low f listed (yes here) d = at .followed j r low f listed (λ e. all r listed here)
+      go j r low f listed (no other) (yes e) = rw e (done-never (other-state other))
+      go j r low f listed (no other) (no k) = at .followed j r low f listed (λ e. absurd (k e))
 
-module _ {image w : List ℕ} {L : ℕ} {m : List ℕ} {over : Bool} {current next i n : ℕ}
-    (at : Searching image w L m over current next) (low : i < situations) (reached : bit m i ≡ 1) (few : n < rowCount image)
-    {u : Situation} (takes : Takes (tableOf image) w (rowOf image n) (situationOf i) u) where
+module _ {t : Table} {w : List ℕ} {L : ℕ} {m : List ℕ} {over : Bool} {current i : ℕ} {Past : Row → Type 0} {r : Row}
+    (at : Searching t w L m over current Past) (low : i < situations) (reached : bit m i ≡ 1) (listed : List·Memᴰ r (t .rows))
+    {u : Situation} (takes : Takes t w r (situationOf i) u) where
   -- a row that is taken is a step
-  step-of : Step (tableOf image) w (situationOf i) u
-  step-of = record { row = rowOf image n; listed = rows-in image n few; takes = takes }
+  step-of : Step t w (situationOf i) u
+  step-of = record { row = r; listed = listed; takes = takes }
 
   -- what it leads to within the limit is reached, and has a mark
-  run-of : u .counter ≤ L → Reach (tableOf image) w L u
+  run-of : u .counter ≤ L → Reach t w L u
   run-of fine = goes (at .sound i low reached) step-of fine
 
   pub mark-for : u .counter ≤ L → HasMark u
   mark-for fine = reached-has-mark (at .ready .range) (at .ready .short) (at .ready .low) (run-of fine)
 
-module _ {image w : List ℕ} {L : ℕ} {m : List ℕ} {over : Bool} {current next : ℕ}
-    (at : Searching image w L m over current next) (low : current < situations) (reached : bit m current ≡ 1) (few : next < rowCount image)
-    {u : Situation} (takes : Takes (tableOf image) w (rowOf image next) (situationOf current) u) where
+module _ {t : Table} {w : List ℕ} {L : ℕ} {m : List ℕ} {over : Bool} {current : ℕ} {Past Next : Row → Type 0} {r : Row}
+    (at : Searching t w L m over current Past) (low : current < situations) (reached : bit m current ≡ 1) (listed : List·Memᴰ r (t .rows))
+    (one : (q : Row) → Next q → Past q ⊎ (q ≡ r)) {u : Situation} (takes : Takes t w r (situationOf current) u) where
   -- a row that would pass the limit is noted
-  pub row-above : L < u .counter → Searching image w L m true current (next + 1)
+  pub row-above : L < u .counter → Searching t w L m true current Next
   row-above high =
       row-done
-      (noted at (record { before = situationOf current; after = u; reached = at .sound current low reached; step = step-of at low reached few takes; above = high }))
+      (noted at (record { before = situationOf current; after = u; reached = at .sound current low reached; step = step-of at low reached listed takes; above = high }))
+      r
+      one
       (record { within = λ v takes′ fine. absurd (omega (arith, same-counter takes takes′)); above = λ v takes′ above. refl })
 
   -- what a row leads to within the limit is marked
-  pub row-within : u .counter ≤ L → Searching image w L (marked m (markOf u)) over current (next + 1)
+  pub row-within : u .counter ≤ L → Searching t w L (marked m (markOf u)) over current Next
   row-within fine =
-      let has = mark-for at low reached few takes fine in
+      let has = mark-for at low reached listed takes fine in
       row-done
-      (mark-reached at (markOf u) (mark-below has) (rw (mark-of has) (run-of at low reached few takes fine)))
+      (mark-reached at (markOf u) (mark-below has) (rw (mark-of has) (run-of at low reached listed takes fine)))
+      r
+      one
       (record {
         within = λ v takes′ fine′.
             subst (λ (x : Situation). bit (marked m (markOf u)) (markOf x) ≡ 1) (takes-once takes takes′) (marked-set m (markOf u) (mark-below has) (at .room));
@@ -136,7 +162,7 @@ module _ {image w : List ℕ} {L : ℕ} {m : List ℕ} {over : Bool} {current ne
 
 -- the search begins with the start marked on empty marks
 pub search-begins
-    : {image w : List ℕ} {L : ℕ} (m : List ℕ) → Ready image w L → length m ≡ markBytes → ((i : ℕ) → bit m i ≡ 0) → Between image w L (marked m 0) false
+    : {t : Table} {w : List ℕ} {L : ℕ} (m : List ℕ) → Ready t w L → length m ≡ markBytes → ((i : ℕ) → bit m i ≡ 0) → Between t w L (marked m 0) false
 search-begins m ready room empty = record {
   ready = ready;
   room = length-marked m 0 ∙ room;
@@ -144,14 +170,14 @@ search-begins m ready room empty = record {
   sound = λ i low one. ⊎-elim (λ (e : i ≡ 0). rw e begins) (λ old. absurd (omega (arith, empty i))) (marked-only m 0 i low one);
   pending = λ i low one.
       ⊎-elim (λ (e : i ≡ 0). rw e (marked-set m 0 (omega arith) room)) (λ old. absurd (omega (arith, empty (i + situations)))) (marked-only-pending m 0 (omega arith) i one);
-  followed = λ i n low f few rest. absurd (never i (marked-followed-before m 0 (omega arith) room i low f));
+  followed = λ i r low f listed rest. absurd (never i (marked-followed-before m 0 (omega arith) room i low f));
   passed = λ e. absurd (true≢false (sym e));
 }
   where
     never : (i : ℕ) → ¬ Followed m i
     never i f = omega (arith, empty i, f .reached)
 
-module _ {image w : List ℕ} {L : ℕ} {m : List ℕ} {over : Bool} (at : Between image w L m over) (i : ℕ) (low : i < situations)
+module _ {t : Table} {w : List ℕ} {L : ℕ} {m : List ℕ} {over : Bool} (at : Between t w L m over) (i : ℕ) (low : i < situations)
     (waits : bit m (i + situations) ≡ 1) where
   -- a situation that is no longer pending is followed
   pub begun-followed : Followed (withoutBit m (i + situations)) i
@@ -173,15 +199,15 @@ module _ {image w : List ℕ} {L : ℕ} {m : List ℕ} {over : Bool} (at : Betwe
         notPending = unchanged (j + situations) (λ e. other (omega arith)) ∙ f .notPending;
       }
 
-  -- a situation stops being pending, and its rows are to be followed
-  pub rows-begin : Searching image w L (withoutBit m (i + situations)) over i 0
-  rows-begin = record {
+  -- a situation stops being pending, and its rows are to be followed, none of them passed yet
+  pub rows-begin : {Past : Row → Type 0} → ((r : Row) → ¬ Past r) → Searching t w L (withoutBit m (i + situations)) over i Past
+  rows-begin {Past} none = record {
     ready = at .ready;
     room = length-withoutBit m (i + situations) ∙ at .room;
     begun = unchanged 0 (omega arith) ∙ at .begun;
     sound = λ j lowj one. at .sound j lowj (sym (unchanged j (omega arith)) ∙ one);
     pending = λ j lowj one. unchanged j (omega arith) ∙ old j lowj one (ℕ-discrete j i);
-    followed = λ j n lowj f few rest. done j n lowj f few rest (ℕ-discrete j i);
+    followed = λ j r lowj f listed rest. done j r lowj f listed rest (ℕ-discrete j i);
     passed = at .passed;
   }
     where
@@ -189,18 +215,18 @@ module _ {image w : List ℕ} {L : ℕ} {m : List ℕ} {over : Bool} (at : Betwe
       old j lowj one (yes e) = rw e (at .pending i low waits)
       old j lowj one (no k) = at .pending j lowj (sym (unchanged (j + situations) (λ e. k (omega arith))) ∙ one)
 
-      done : (j n : ℕ) → j < situations → Followed (withoutBit m (i + situations)) j → n < rowCount image → (j ≡ i → n < 0)
-          → Dec (j ≡ i) → RowDone (tableOf image) w L (withoutBit m (i + situations)) over (situationOf j) (rowOf image n)
-      done j n lowj f few rest (yes e) = absurd (omega (arith, rest e))
-      done j n lowj f few rest (no k) =
+      done : (j : ℕ) (r : Row) → j < situations → Followed (withoutBit m (i + situations)) j → List·Memᴰ r (t .rows) → (j ≡ i → Past r)
+          → Dec (j ≡ i) → RowDone t w L (withoutBit m (i + situations)) over (situationOf j) r
+      done j r lowj f listed rest (yes e) = absurd (none r (rest e))
+      done j r lowj f listed rest (no k) =
           let before : Followed m j = record {
             reached = sym (unchanged j (omega arith)) ∙ f .reached;
             notPending = sym (unchanged (j + situations) (λ e. k (omega arith))) ∙ f .notPending;
           } in
-          let was = at .followed j n lowj before few (λ e. absurd (omega arith)) in
+          let was = at .followed j r lowj before listed (λ e. absurd (omega arith)) in
           record {
             within = λ u takes fine.
-                let small = mark-below (mark-for at lowj (before .reached) few takes fine) in
+                let small = mark-below (mark-for at lowj (before .reached) listed takes fine) in
                 unchanged (markOf u) (omega arith) ∙ was .within u takes fine;
             above = was .above;
           }

@@ -2,17 +2,18 @@
 use Prim.Native.Nat.{ℕ, _+_, _*_, _/_, _%_, _≤_, _<_}
 use mathlib.Core.Path.{_≡_}
 use mathlib.Core.Logic.{_≢_}
-use mathlib.Core.Bool.{Bool, true, false, _&&_}
+use mathlib.Core.Bool.{Bool, true, false}
 use mathlib.Core.List.{List}
 use lib.ListN.{length, getD}
-use lib.Dec.{eqb}
 use Rattle.bits.specs.Bit.{bit}
 use Rattle.bits.specs.Size.{Size}
-use Rattle.table.specs.Table.{Accepting}
+use Rattle.table.specs.Table.{Row, Table, Accepting}
 use Rattle.table.specs.Refusal.{First, refusal}
-use Rattle.table.specs.Fields.{lettersOf, rowFrom, tableOf, rowCount}
+use Rattle.table.specs.Fields.{rowFrom, tableOf}
+use Rattle.table.specs.Source.{placeIn, rowIn, Shows, Sources}
+use Rattle.table.specs.declared.source.Range.{Range}
+use Rattle.table.specs.declared.source.Source.{Source}
 use Rattle.cells.specs.Cell.{Symbol, symbolOn}
-use Rattle.machine.specs.Step.{symbolFits, counterFits}
 use Rattle.machine.specs.Run.{Reach}
 use Rattle.judgement.specs.Verdict.{Verdict, Yes, No, LimitMet, verdictNumber, IsVerdict}
 use Rattle.judgement.specs.Marks.{markBytes, firstHalf, Marks}
@@ -48,55 +49,63 @@ pub record Picked (m : List ℕ) (r : ℕ) : Type 0 where
   pub guess : Guess m r
   pub none : situations ≤ r → (k : ℕ) → firstHalf ≤ k → getD m k 0 ≡ 0
 
--- row r of situation i is to be followed
-pub record RowOpen (image w : List ℕ) (L : ℕ) (m : List ℕ) (over : Bool) (i r : ℕ) : Type 0 where
-  pub at : Searching image w L m over i r
+-- a row is one of those before the next that a range of rows shows
+pub record Shown (rows : List ℕ) (range : Range) (next : ℕ) (r : Row) : Type 0 where
+  pub number : ℕ
+  pub low : number < next
+  pub is : r ≡ rowIn rows range number
+
+-- row j of those that are shown for situation i stands here, and is to be followed
+pub record RowOpen (t : Table) (rows w : List ℕ) (L : ℕ) (m : List ℕ) (over : Bool) (i : ℕ) (range : Range) (j at : ℕ) : Type 0 where
+  pub search : Searching t w L m over i (Shown rows range j)
   pub low : i < situations
   pub followed : Followed m i
-  pub few : r < rowCount image
+  pub shows : Shows t rows (i / 32 / 64) range
+  pub few : j < range .many
+  pub place : at ≡ placeIn range j
 
--- whether the row that stands here leaves a state and fits a counter and what is seen
-unfoldable pub suited : List ℕ → ℕ → ℕ → ℕ → Symbol → Bool
-suited image at state counter seen =
-    eqb (rowFrom image at .from) state
-    && (symbolFits (tableOf image .alphabet) (rowFrom image at .symbol) seen && counterFits (rowFrom image at .test) counter)
-
--- row r of situation i, which stands here, is to be followed, and this is what is seen
-pub record RowHere (image w : List ℕ) (L : ℕ) (m : List ℕ) (over : Bool) (i r at : ℕ) (seen : Symbol) : Type 0 where
-  pub row : RowOpen image w L m over i r
-  pub place : at ≡ lettersOf image + 38 + r * 8
+-- and this is what is seen
+pub record RowHere (t : Table) (rows w : List ℕ) (L : ℕ) (m : List ℕ) (over : Bool) (i : ℕ) (range : Range) (j at : ℕ) (seen : Symbol) : Type 0 where
+  pub row : RowOpen t rows w L m over i range j at
   pub sees : seen ≡ symbolOn w (i / 32 % 64)
 
--- and was
-pub record RowFollowed (image w : List ℕ) (L : ℕ) (m m′ : List ℕ) (over : Bool) (i r : ℕ) : Type 0 where
-  pub at : Searching image w L m′ over i (r + 1)
+-- and it leaves the situation's state
+pub record RowLeaves (t : Table) (rows w : List ℕ) (L : ℕ) (m : List ℕ) (over : Bool) (i : ℕ) (range : Range) (j at : ℕ) (seen : Symbol) : Type 0 where
+  pub here : RowHere t rows w L m over i range j at seen
+  pub leaves : rowFrom rows at .from ≡ i / 32 / 64
+
+-- and was followed
+pub record RowFollowed (t : Table) (rows w : List ℕ) (L : ℕ) (m m′ : List ℕ) (over : Bool) (i : ℕ) (range : Range) (j : ℕ) : Type 0 where
+  pub search : Searching t w L m′ over i (Shown rows range (j + 1))
   pub keeps : Keeps m m′
 
--- situation i is to be followed
-pub record Waiting (image w : List ℕ) (L : ℕ) (m : List ℕ) (over : Bool) (i : ℕ) : Type 0 where
-  pub between : Between image w L m over
+-- situation i is to be followed, by the rows of a source
+pub record Waiting (t : Table) (rows : List ℕ) (source : Source) (w : List ℕ) (L : ℕ) (m : List ℕ) (over : Bool) (i : ℕ) : Type 0 where
+  pub sources : Sources t source rows
+  pub between : Between t w L m over
   pub low : i < situations
   pub waits : bit m (i + situations) ≡ 1
 
 -- and was
-pub record Expanded (image w : List ℕ) (L : ℕ) (m m′ : List ℕ) (over : Bool) (i : ℕ) : Type 0 where
-  pub between : Between image w L m′ over
+pub record Expanded (t : Table) (w : List ℕ) (L : ℕ) (m m′ : List ℕ) (over : Bool) (i : ℕ) : Type 0 where
+  pub between : Between t w L m′ over
   pub keeps : Keeps m m′
   pub done : Followed m′ i
 
 -- nothing is marked yet
-pub record Unmarked (image w : List ℕ) (L : ℕ) (m : List ℕ) : Type 0 where
-  pub ready : Ready image w L
+pub record Unmarked (t : Table) (rows : List ℕ) (source : Source) (w : List ℕ) (L : ℕ) (m : List ℕ) : Type 0 where
+  pub ready : Ready t w L
+  pub sources : Sources t source rows
   pub room : length m ≡ markBytes
   pub empty : (i : ℕ) → bit m i ≡ 0
 
 -- a state accepts, and a situation in it is marked
-pub record AcceptsIn (image m : List ℕ) (state : ℕ) : Type 0 where
+pub record AcceptsIn (t : Table) (m : List ℕ) (state : ℕ) : Type 0 where
   pub mark : ℕ
   pub low : mark < situations
   pub here : situationOf mark .state ≡ state
   pub set : bit m mark ≡ 1
-  pub accepting : Accepting (tableOf image) state
+  pub accepting : Accepting t state
 
 -- the verdict that the two questions give: whether a run accepts, and whether one meets the limit
 unfoldable pub verdictOf : Bool → Bool → Verdict
@@ -104,18 +113,19 @@ verdictOf true over = Yes
 verdictOf false true = LimitMet
 verdictOf false false = No
 
--- what is judged
-pub record Undecided (image w : List ℕ) (L : ℕ) (m : List ℕ) : Type 0 where
-  pub ready : Ready image w L
+-- what is judged, by the rows of a source
+pub record Undecided (t : Table) (rows : List ℕ) (source : Source) (w : List ℕ) (L : ℕ) (m : List ℕ) : Type 0 where
+  pub ready : Ready t w L
+  pub sources : Sources t source rows
   pub room : length m ≡ markBytes
 
 -- the answer on it
-pub record Decided (image w : List ℕ) (L : ℕ) (m : List ℕ) (r : ℕ) : Type 0 where
+pub record Decided (t : Table) (w : List ℕ) (L : ℕ) (m : List ℕ) (r : ℕ) : Type 0 where
   pub verdict : Verdict
   pub many : ℕ
-  pub right : IsVerdict (tableOf image) w L verdict
-  pub count : Size (Reach (tableOf image) w L) many
-  pub marks : Marks (tableOf image) w L m
+  pub right : IsVerdict t w L verdict
+  pub count : Size (Reach t w L) many
+  pub marks : Marks t w L m
   pub number : r ≡ verdictNumber verdict * 1000000 + many
 
 -- number 25, or 0 for a mark buffer of the right length

@@ -3,13 +3,12 @@
 use Prim.Native.Nat.{ℕ, _+_, _*_, _/_, _%_, _≤_, _<_}
 use mathlib.Core.Path.{_≡_}
 use mathlib.Core.Bool.{Bool, true, cond}
-use mathlib.Core.List.{List}
+use mathlib.Core.List.{List, List·Memᴰ}
 use lib.ListN.{length, getD}
 use lib.Dec.{eqb}
 use Rattle.bits.specs.Bit.{bit, withBit}
 use Rattle.table.specs.Table.{Row, Table, Accepting}
 use Rattle.table.specs.WellFormed.{InRange}
-use Rattle.table.specs.Fields.{lettersOf, tableOf, rowOf, rowCount}
 use Rattle.machine.specs.Step.{Situation, Takes}
 use Rattle.machine.specs.Run.{Reach, Passes}
 use Rattle.judgement.specs.Marks.{markBytes, firstHalf, markOf}
@@ -35,42 +34,41 @@ pub record RowDone (t : Table) (w : List ℕ) (L : ℕ) (m : List ℕ) (over : B
   pub within : (u : Situation) → Takes t w r s u → u .counter ≤ L → bit m (markOf u) ≡ 1
   pub above : (u : Situation) → Takes t w r s u → L < u .counter → over ≡ true
 
--- what is searched: a table within its ranges, whose rows all stand in the image, a short word and a low limit
-pub record Ready (image w : List ℕ) (L : ℕ) : Type 0 where
-  pub range : InRange (tableOf image)
-  pub long : lettersOf image + 38 + rowCount image * 8 ≤ length image
+-- what is searched: a table within its ranges, a short word and a low limit
+pub record Ready (t : Table) (w : List ℕ) (L : ℕ) : Type 0 where
+  pub range : InRange t
   pub short : length w ≤ 62
   pub low : L ≤ 31
 
--- the marks and what was noted, in the midst of the search: every row of a followed situation is done with, but for those from row `next` on
--- of situation `current` (of none, where that is no situation's number)
-pub record Searching (image w : List ℕ) (L : ℕ) (m : List ℕ) (over : Bool) (current next : ℕ) : Type 0 where
-  pub ready : Ready image w L
+-- the marks and what was noted, in the midst of the search: every row of a followed situation is done with, but of situation `current`
+-- (of none, where that is no situation's number) only those that have been passed
+pub record Searching (t : Table) (w : List ℕ) (L : ℕ) (m : List ℕ) (over : Bool) (current : ℕ) (Past : Row → Type 0) : Type 0 where
+  pub ready : Ready t w L
   pub room : length m ≡ markBytes
   pub begun : bit m 0 ≡ 1
-  pub sound : (i : ℕ) → i < situations → bit m i ≡ 1 → Reach (tableOf image) w L (situationOf i)
+  pub sound : (i : ℕ) → i < situations → bit m i ≡ 1 → Reach t w L (situationOf i)
   pub pending : (i : ℕ) → i < situations → bit m (i + situations) ≡ 1 → bit m i ≡ 1
   pub followed
-      : (i n : ℕ) → i < situations → Followed m i → n < rowCount image → (i ≡ current → n < next)
-      → RowDone (tableOf image) w L m over (situationOf i) (rowOf image n)
-  pub passed : over ≡ true → Passes (tableOf image) w L
+      : (i : ℕ) (r : Row) → i < situations → Followed m i → List·Memᴰ r (t .rows) → (i ≡ current → Past r)
+      → RowDone t w L m over (situationOf i) r
+  pub passed : over ≡ true → Passes t w L
 
 -- the search is between two situations
-abbrev pub Between : List ℕ → List ℕ → ℕ → List ℕ → Bool → Type 0
-Between image w L m over = Searching image w L m over situations 0
+abbrev pub Between : Table → List ℕ → ℕ → List ℕ → Bool → Type 0
+Between t w L m over = Searching t w L m over situations (λ r. ⊥)
 
 -- what is followed stays followed
 abbrev pub Keeps : List ℕ → List ℕ → Type 0
 Keeps m m′ = (i : ℕ) → i < situations → Followed m i → Followed m′ i
 
 -- the search is over: nothing is pending
-pub record Searched (image w : List ℕ) (L : ℕ) (m : List ℕ) (over : Bool) : Type 0 where
-  pub between : Between image w L m over
+pub record Searched (t : Table) (w : List ℕ) (L : ℕ) (m : List ℕ) (over : Bool) : Type 0 where
+  pub between : Between t w L m over
   pub rest : (i : ℕ) → firstHalf ≤ i → getD m i 0 ≡ 0
 
 -- a marked situation whose state accepts
-pub record MarkedAccepts (image m : List ℕ) : Type 0 where
+pub record MarkedAccepts (t : Table) (m : List ℕ) : Type 0 where
   pub mark : ℕ
   pub low : mark < situations
   pub set : bit m mark ≡ 1
-  pub accepting : Accepting (tableOf image) (situationOf mark .state)
+  pub accepting : Accepting t (situationOf mark .state)

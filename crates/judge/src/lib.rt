@@ -4,10 +4,11 @@ mod search;
 
 use pending::first_set;
 use refusing::Asked;
+use table::source::Source;
 ghost use mathlib.Core.Path.{_≡_};
 ghost use Prim.Native.Nat.{_<_};
 ghost use lib.ListN.{length};
-ghost use Rattle.table.specs.Fields.{Tells};
+ghost use Rattle.table.specs.Fields.{tableOf, Tells};
 ghost use Rattle.judgement.specs.Marks.{markBytes};
 ghost use Rattle.judgement.specs.Verdict.{verdictNumber};
 ghost use Rattle.judgement.specs.Judge.{Judges};
@@ -37,7 +38,7 @@ fn room_refused(marks: &[u8]) -> u64
 // Whether a state accepts and a situation in it is marked.
 fn accepts_in(image: &[u8], marks: &[u8], state: usize) -> bool
     requires { ⌜ (state < 128) × (length (now marks) ≡ markBytes) ⌝ }
-    ensures { λ r. ⌜ Tells r (AcceptsIn (now (image .entry)) (now (marks .entry)) state) ⌝ }
+    ensures { λ r. ⌜ Tells r (AcceptsIn (tableOf (now (image .entry))) (now (marks .entry)) state) ⌝ }
 {
     if table::accepts(image, state) != 1 {
         return false;
@@ -50,7 +51,7 @@ fn accepts_in(image: &[u8], marks: &[u8], state: usize) -> bool
 // Whether a marked situation accepts.
 fn accepted(image: &[u8], marks: &[u8]) -> bool
     requires { ⌜ length (now marks) ≡ markBytes ⌝ }
-    ensures { λ r. ⌜ Tells r (MarkedAccepts (now (image .entry)) (now (marks .entry))) ⌝ }
+    ensures { λ r. ⌜ Tells r (MarkedAccepts (tableOf (now (image .entry))) (now (marks .entry))) ⌝ }
 {
     for state in 0usize..128 {
         if accepts_in(image, marks, state) {
@@ -70,13 +71,20 @@ fn verdict_number(yes: bool, over: bool) -> u64
     if over { 3 } else { 2 }
 }
 
-// The verdict and the count on what is judged.
-fn decide(image: &[u8], word: &[u8], limit: usize, marks: &mut [u8]) -> u64
-    requires { ⌜ Undecided (now image) (now word) limit (now marks) ⌝ }
-    ensures { λ r. ⌜ Decided (now (image .entry)) (now (word .entry)) limit (now (marks .exit)) r ⌝ }
+// The verdict and the count on what is judged, by the rows of a source.
+fn decide(
+    image: &[u8],
+    rows: &[u8],
+    source: Source,
+    word: &[u8],
+    limit: usize,
+    marks: &mut [u8],
+) -> u64
+    requires { ⌜ Undecided (tableOf (now image)) (now rows) source (now word) limit (now marks) ⌝ }
+    ensures { λ r. ⌜ Decided (tableOf (now (image .entry))) (now (word .entry)) limit (now (marks .exit)) r ⌝ }
 {
     bits::clear(marks);
-    let over = search::search(image, word, limit, marks);
+    let over = search::search(image, rows, source, word, limit, marks);
     let yes = accepted(image, marks);
     let count = ones::count_ones(&marks[..32768]);
     verdict_number(yes, over) * 1000000 + count as u64
@@ -90,5 +98,5 @@ pub fn judge(image: &[u8], word: &[u8], limit: u64, marks: &mut [u8]) -> u64
     if refusal != 0 {
         return refusal;
     }
-    decide(image, word, limit as usize, marks)
+    decide(image, image, Source::Image, word, limit as usize, marks)
 }

@@ -1,35 +1,54 @@
-// The search: from the start on, the rows of one pending situation after the other are followed, until none is pending.
+// The search: from the start on, the rows of one pending situation after the other are followed, until none is pending. It goes over the
+// rows that a source shows for a situation's state, and knows of the source only that.
 use super::pending::SITUATIONS;
 use super::pending::mark;
 use super::pending::pick;
 use cells::Symbol;
 use machine::Outcome;
+use table::source::Range;
+use table::source::Source;
+use table::source::rows_of;
 ghost use mathlib.Core.Path.{_≡_};
-ghost use Prim.Native.Nat.{_+_, _*_, _≤_};
-ghost use lib.ListN.{length};
+ghost use mathlib.Core.Bool.{_&&_};
+ghost use Rattle.table.specs.Fields.{tableOf};
 ghost use Rattle.cells.specs.Code.{symbolIs};
+ghost use Rattle.machine.specs.Step.{symbolFits, counterFits};
 ghost use Rattle.judge.specs.Search.{Searched};
-ghost use Rattle.judge.specs.Inner.{suited, RowOpen, RowHere, RowFollowed, Waiting, Expanded, Unmarked};
+ghost use Rattle.judge.specs.Inner.{RowHere, RowLeaves, RowFollowed, Waiting, Expanded, Unmarked};
 
-// Follows row r of situation i: what it leads to within the limit is marked. The answer is whether a step above the limit was met, now or
-// before.
+// Whether a row's symbol and test fit what is seen and a counter.
+fn suits(image: &[u8], symbol: u8, test: u8, seen: Symbol, counter: usize) -> bool
+    ensures { λ b. ⌜ b ≡ (symbolFits (tableOf (now (image .entry)) .alphabet) symbol (symbolIs seen) && counterFits test counter) ⌝ }
+{
+    if machine::counter_fits(test, counter) {
+        return machine::symbol_fits(image, symbol, seen);
+    }
+    false
+}
+
+// Follows the row that stands here and leaves the state of situation i, if it fits what is seen there: what it leads to within the limit
+// is marked. The answer is whether a step above the limit was met, now or before.
 fn follow(
     image: &[u8],
+    rows: &[u8],
     word: &[u8],
     limit: usize,
     i: usize,
-    r: usize,
+    range: Range,
+    j: usize,
+    at: usize,
+    seen: Symbol,
     over: bool,
     marks: &mut [u8],
     hints: &mut [u64; 33],
 ) -> bool
-    requires { ⌜ RowOpen (now image) (now word) limit (now marks) over i r ⌝ }
-    ensures { λ b. ⌜ RowFollowed (now (image .entry)) (now (word .entry)) limit (now (marks .entry)) (now (marks .exit)) b i r ⌝ }
+    requires { ⌜ RowLeaves (tableOf (now image)) (now rows) (now word) limit (now marks) over i range j at (symbolIs seen) ⌝ }
+    ensures { λ b. ⌜ RowFollowed (tableOf (now (image .entry))) (now (rows .entry)) (now (word .entry)) limit (now (marks .entry)) (now (marks .exit)) b i range j ⌝ }
 {
-    if table::row_from(image, r) != i / 32 / 64 {
+    let row = table::row_here(rows, at);
+    if !suits(image, row.symbol, row.test, seen, i % 32) {
         return over;
     }
-    let row = table::row_at(image, r);
     let to = row.to;
     let outcome = machine::step(image, word, row, i / 32 % 64, i % 32, limit);
     match outcome {
@@ -42,50 +61,48 @@ fn follow(
     }
 }
 
-fn two(high: u8, low: u8) -> usize
-    ensures { λ r. ⌜ r ≡ high * 256 + low ⌝ }
-{
-    (high as usize) * 256 + low as usize
-}
-
-// Whether the row that stands here leaves a state and fits a counter and what is seen: most rows do not, and no more of them is read.
-fn suits(image: &[u8], at: usize, state: usize, counter: usize, seen: Symbol) -> bool
-    requires { ⌜ at + 8 ≤ length (now image) ⌝ }
-    ensures { λ b. ⌜ b ≡ suited (now (image .entry)) at state counter (symbolIs seen) ⌝ }
-{
-    if two(image[at], image[at + 1]) == state {
-        if machine::counter_fits(image[at + 3], counter) {
-            return machine::symbol_fits(image, image[at + 2], seen);
-        }
-    }
-    false
-}
-
-// Follows row r, which stands here, of situation i, if it fits what is seen there.
+// Follows row j of those that are shown for situation i, which stands here, if it leaves its state: of an image most rows do not.
 fn visit(
     image: &[u8],
+    rows: &[u8],
     word: &[u8],
     limit: usize,
     i: usize,
-    r: usize,
+    range: Range,
+    j: usize,
     at: usize,
     seen: Symbol,
     over: bool,
     marks: &mut [u8],
     hints: &mut [u64; 33],
 ) -> bool
-    requires { ⌜ RowHere (now image) (now word) limit (now marks) over i r at (symbolIs seen) ⌝ }
-    ensures { λ b. ⌜ RowFollowed (now (image .entry)) (now (word .entry)) limit (now (marks .entry)) (now (marks .exit)) b i r ⌝ }
+    requires { ⌜ RowHere (tableOf (now image)) (now rows) (now word) limit (now marks) over i range j at (symbolIs seen) ⌝ }
+    ensures { λ b. ⌜ RowFollowed (tableOf (now (image .entry))) (now (rows .entry)) (now (word .entry)) limit (now (marks .entry)) (now (marks .exit)) b i range j ⌝ }
 {
-    if suits(image, at, i / 32 / 64, i % 32, seen) {
-        return follow(image, word, limit, i, r, over, marks, hints);
+    if table::leaves(rows, at, i / 32 / 64) {
+        return follow(
+            image,
+            rows,
+            word,
+            limit,
+            i,
+            range,
+            j,
+            at,
+            seen,
+            over,
+            marks,
+            hints,
+        );
     }
     over
 }
 
-// Follows every row of situation i, which is pending.
+// Follows every row that a source shows for situation i, which is pending.
 fn expand(
     image: &[u8],
+    rows: &[u8],
+    source: Source,
     word: &[u8],
     limit: usize,
     i: usize,
@@ -93,35 +110,47 @@ fn expand(
     marks: &mut [u8],
     hints: &mut [u64; 33],
 ) -> bool
-    requires { ⌜ Waiting (now image) (now word) limit (now marks) over i ⌝ }
-    ensures { λ b. ⌜ Expanded (now (image .entry)) (now (word .entry)) limit (now (marks .entry)) (now (marks .exit)) b i ⌝ }
+    requires { ⌜ Waiting (tableOf (now image)) (now rows) source (now word) limit (now marks) over i ⌝ }
+    ensures { λ b. ⌜ Expanded (tableOf (now (image .entry))) (now (word .entry)) limit (now (marks .entry)) (now (marks .exit)) b i ⌝ }
 {
     bits::clear_bit(marks, i + SITUATIONS);
-    let rows = table::row_count(image);
-    let first = table::letter_count(image) + 38;
+    let range = rows_of(source, rows, i / 32 / 64);
+    let many = range.many;
+    let apart = range.apart;
     let symbol = cells::head::seen(word, i / 32 % 64);
+    let mut at = range.first;
     let mut past = over;
-    for r in 0..rows {
+    for j in 0..many {
         past = visit(
             image,
+            rows,
             word,
             limit,
             i,
-            r,
-            first + r * 8,
+            range,
+            j,
+            at,
             symbol,
             past,
             marks,
             hints,
         );
+        at += apart;
     }
     past
 }
 
-// Marks all that is reached. The answer is whether a step above the limit was met.
-pub fn search(image: &[u8], word: &[u8], limit: usize, marks: &mut [u8]) -> bool
-    requires { ⌜ Unmarked (now image) (now word) limit (now marks) ⌝ }
-    ensures { λ b. ⌜ Searched (now (image .entry)) (now (word .entry)) limit (now (marks .exit)) b ⌝ }
+// Marks all that is reached, by the rows of a source. The answer is whether a step above the limit was met.
+pub fn search(
+    image: &[u8],
+    rows: &[u8],
+    source: Source,
+    word: &[u8],
+    limit: usize,
+    marks: &mut [u8],
+) -> bool
+    requires { ⌜ Unmarked (tableOf (now image)) (now rows) source (now word) limit (now marks) ⌝ }
+    ensures { λ b. ⌜ Searched (tableOf (now (image .entry))) (now (word .entry)) limit (now (marks .exit)) b ⌝ }
 {
     let mut hints = [0u64; 33];
     mark(0, marks, &mut hints);
@@ -131,6 +160,6 @@ pub fn search(image: &[u8], word: &[u8], limit: usize, marks: &mut [u8]) -> bool
         if i == SITUATIONS {
             return over;
         }
-        over = expand(image, word, limit, i, over, marks, &mut hints);
+        over = expand(image, rows, source, word, limit, i, over, marks, &mut hints);
     }
 }

@@ -8,6 +8,7 @@ use mathlib.Core.List.{List}
 use lib.ListN.{length, getD, drop, length-take, length-drop}
 use lib.Dec.{ltb, eqb, leb·zero}
 use borrow.Author.Tests.{lt-ltb, le-ltb, le-leb, lt-leb, eq-eqb, ne-eqb}
+use Rattle.table.specs.Form as Form
 use Rattle.table.specs.Fields.{lettersOf, letterOf, tableOf}
 use Rattle.cells.specs.Cell.{Symbol, leftMark, letter, rightMark}
 use Rattle.machine.specs.Step.{symbolFits, counterFits, changed}
@@ -23,78 +24,78 @@ or-false true e = refl
 or-false false e = e
 
 -- a test of either counter
-pub counter-either : (test counter : ℕ) → test ≡ 2 → counterFits test counter ≡ true
+pub counter-either : (test counter : ℕ) → test ≡ Form.eitherCounter → counterFits test counter ≡ true
 unfolding counterFits
-counter-either test counter either = or-true (eqb test (min counter 1)) (eq-eqb test 2 either)
+counter-either test counter either = or-true (eqb test (min counter 1)) (eq-eqb test Form.eitherCounter either)
 
 -- any other test, with the counter at zero and above it
-pub counter-zero : (test counter : ℕ) → ¬ (test ≡ 2) → counter ≡ 0 → counterFits test counter ≡ eqb test 0
+pub counter-zero : (test counter : ℕ) → ¬ (test ≡ Form.eitherCounter) → counter ≡ 0 → counterFits test counter ≡ eqb test Form.zeroCounter
 unfolding counterFits
-counter-zero test counter other zero = or-false (eqb test (min counter 1)) (ne-eqb test 2 other) ∙ ap (eqb test) (omega arith)
+counter-zero test counter other zero = or-false (eqb test (min counter 1)) (ne-eqb test Form.eitherCounter other) ∙ ap (eqb test) (omega arith)
 
-pub counter-above : (test counter : ℕ) → ¬ (test ≡ 2) → ¬ (counter ≡ 0) → counterFits test counter ≡ eqb test 1
+pub counter-above : (test counter : ℕ) → ¬ (test ≡ Form.eitherCounter) → ¬ (counter ≡ 0) → counterFits test counter ≡ eqb test Form.aboveZero
 unfolding counterFits
-counter-above test counter other above = or-false (eqb test (min counter 1)) (ne-eqb test 2 other) ∙ ap (eqb test) (omega arith)
+counter-above test counter other above = or-false (eqb test (min counter 1)) (ne-eqb test Form.eitherCounter other) ∙ ap (eqb test) (omega arith)
 
 -- any symbol
-pub symbol-any : (alphabet : List ℕ) (code : ℕ) (seen : Symbol) → code ≡ 18 → symbolFits alphabet code seen ≡ true
+pub symbol-any : (alphabet : List ℕ) (code : ℕ) (seen : Symbol) → code ≡ Form.anySymbol → symbolFits alphabet code seen ≡ true
 unfolding symbolFits
-symbol-any alphabet code leftMark any = or-true (eqb code 16) (eq-eqb code 18 any)
-symbol-any alphabet code (letter b) any = or-true (ltb code (length alphabet) && eqb (getD alphabet code 0) b) (eq-eqb code 18 any)
-symbol-any alphabet code rightMark any = or-true (eqb code 17) (eq-eqb code 18 any)
+symbol-any alphabet code leftMark any = or-true (eqb code Form.leftMark) (eq-eqb code Form.anySymbol any)
+symbol-any alphabet code (letter b) any = or-true (ltb code (length alphabet) && eqb (getD alphabet code 0) b) (eq-eqb code Form.anySymbol any)
+symbol-any alphabet code rightMark any = or-true (eqb code Form.rightMark) (eq-eqb code Form.anySymbol any)
 
-module _ (alphabet : List ℕ) (code : ℕ) (other : ¬ (code ≡ 18)) where
+module _ (alphabet : List ℕ) (code : ℕ) (other : ¬ (code ≡ Form.anySymbol)) where
   -- any other symbol, on each kind of cell
-  pub symbol-left : symbolFits alphabet code leftMark ≡ eqb code 16
+  pub symbol-left : symbolFits alphabet code leftMark ≡ eqb code Form.leftMark
   unfolding symbolFits
-  symbol-left = or-false (eqb code 16) (ne-eqb code 18 other)
+  symbol-left = or-false (eqb code Form.leftMark) (ne-eqb code Form.anySymbol other)
 
   pub symbol-letter : (b : ℕ) → symbolFits alphabet code (letter b) ≡ (ltb code (length alphabet) && eqb (getD alphabet code 0) b)
   unfolding symbolFits
-  symbol-letter b = or-false (ltb code (length alphabet) && eqb (getD alphabet code 0) b) (ne-eqb code 18 other)
+  symbol-letter b = or-false (ltb code (length alphabet) && eqb (getD alphabet code 0) b) (ne-eqb code Form.anySymbol other)
 
-  pub symbol-right : symbolFits alphabet code rightMark ≡ eqb code 17
+  pub symbol-right : symbolFits alphabet code rightMark ≡ eqb code Form.rightMark
   unfolding symbolFits
-  symbol-right = or-false (eqb code 17) (ne-eqb code 18 other)
+  symbol-right = or-false (eqb code Form.rightMark) (ne-eqb code Form.anySymbol other)
 
 -- how many letters stand in an image
-letters-many : (image : List ℕ) → length (tableOf image .alphabet) ≡ min (lettersOf image) (length image - 7)
+letters-many : (image : List ℕ) → length (tableOf image .alphabet) ≡ min (lettersOf image) (length image - Form.lettersPlace)
 unfolding tableOf
-letters-many image = length-take (lettersOf image) (drop 7 image) ∙ ap (min (lettersOf image)) (length-drop 7 image)
+letters-many image = length-take (lettersOf image) (drop Form.lettersPlace image) ∙ ap (min (lettersOf image)) (length-drop Form.lettersPlace image)
 
 -- a code past them is no letter's
-pub letter-past : (image : List ℕ) (code b : ℕ) → min (lettersOf image) (length image - 7) ≤ code
+pub letter-past : (image : List ℕ) (code b : ℕ) → min (lettersOf image) (length image - Form.lettersPlace) ≤ code
     → (ltb code (length (tableOf image .alphabet)) && eqb (getD (tableOf image .alphabet) code 0) b) ≡ false
 letter-past image code b past = rw (le-ltb code (length (tableOf image .alphabet)) (omega (arith, letters-many image))) refl
 
 -- any other is compared with its letter
-pub letter-compared : (image : List ℕ) (code b at found : ℕ) → code < min (lettersOf image) (length image - 7) → at ≡ code → found ≡ letterOf image at
+pub letter-compared : (image : List ℕ) (code b at found : ℕ) → code < min (lettersOf image) (length image - Form.lettersPlace) → at ≡ code → found ≡ letterOf image at
     → eqb found b ≡ (ltb code (length (tableOf image .alphabet)) && eqb (letterOf image code) b)
 letter-compared image code b at found inside here is =
     rw (lt-ltb code (length (tableOf image .alphabet)) (omega (arith, letters-many image)), is, here) refl
 
 module _ (stops : Bool) (code counter by : ℕ) (is : by ≡ code) where
   -- a rise
-  pub changed-up : 31 ≤ by → changed stops code counter ≡ some (counter + (by - 31))
+  pub changed-up : Form.noChange ≤ by → changed stops code counter ≡ some (counter + (by - Form.noChange))
   unfolding changed
-  changed-up up = rw (le-leb 31 (counter + code) (omega arith)) (ap some (omega arith))
+  changed-up up = rw (le-leb Form.noChange (counter + code) (omega arith)) (ap some (omega arith))
 
   -- a fall that does not lead below zero
-  pub changed-down : by < 31 → 31 - by ≤ counter → changed stops code counter ≡ some (counter - (31 - by) + 0)
+  pub changed-down : by < Form.noChange → Form.noChange - by ≤ counter → changed stops code counter ≡ some (counter - (Form.noChange - by) + 0)
   unfolding changed
-  changed-down down enough = rw (le-leb 31 (counter + code) (omega arith)) (ap some (omega arith))
+  changed-down down enough = rw (le-leb Form.noChange (counter + code) (omega arith)) (ap some (omega arith))
 
   -- and one that does
-  changed-below : counter < 31 - by → changed stops code counter ≡ cond stops (some 0) none
+  changed-below : counter < Form.noChange - by → changed stops code counter ≡ cond stops (some 0) none
   unfolding changed
-  changed-below low = rw (lt-leb 31 (counter + code) (omega arith)) refl
+  changed-below low = rw (lt-leb Form.noChange (counter + code) (omega arith)) refl
 
   -- where it stops at zero, and where it does not
-  pub changed-stops : (limit cell : ℕ) → counter < 31 - by → stops ≡ true → outcomeOf limit cell (changed stops code counter) ≡ Goes cell 0
+  pub changed-stops : (limit cell : ℕ) → counter < Form.noChange - by → stops ≡ true → outcomeOf limit cell (changed stops code counter) ≡ Goes cell 0
   unfolding outcomeOf
   changed-stops limit cell low e = rw (changed-below low, e, leb·zero limit) refl
 
-  pub changed-dies : (limit cell : ℕ) → counter < 31 - by → stops ≡ false → outcomeOf limit cell (changed stops code counter) ≡ Blocked
+  pub changed-dies : (limit cell : ℕ) → counter < Form.noChange - by → stops ≡ false → outcomeOf limit cell (changed stops code counter) ≡ Blocked
   unfolding outcomeOf
   changed-dies limit cell low e = rw (changed-below low, e) refl
 

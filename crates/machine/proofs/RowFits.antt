@@ -6,6 +6,7 @@ use mathlib.Core.List.{List}
 use lib.ListN.{length, getD}
 use lib.Dec.{eqb, ltb}
 use borrow.Author.Tests.{eqb-true, eq-eqb}
+use Rattle.table.specs.Form as Form
 use Rattle.table.specs.Table.{Row, Table}
 use Rattle.cells.specs.Cell.{Symbol, leftMark, letter, rightMark, symbolOn}
 use Rattle.machine.specs.Step.{Situation, symbolFits, counterFits, rowFits}
@@ -30,14 +31,14 @@ module _ {t : Table} {word : List ℕ} {r : Row} {s : Situation} where
       let rest = and-eq-true-iff (symbolFits (t .alphabet) (r .symbol) (symbolOn word (s .cell))) _ .0 (first .1) in
       record { state = eqb-true _ _ (first .0); symbol = rest .0; counter = rest .1 }
 
--- any symbol fits 18
-pub any-fits : (alphabet : List ℕ) (symbol : Symbol) → symbolFits alphabet 18 symbol ≡ true
+-- the code of any symbol fits each
+pub any-fits : (alphabet : List ℕ) (symbol : Symbol) → symbolFits alphabet Form.anySymbol symbol ≡ true
 unfolding symbolFits
 any-fits alphabet leftMark = refl
-any-fits alphabet (letter b) = or-true (ltb 18 (length alphabet) && eqb (getD alphabet 18 0) b)
+any-fits alphabet (letter b) = or-true (ltb Form.anySymbol (length alphabet) && eqb (getD alphabet Form.anySymbol 0) b)
 any-fits alphabet rightMark = refl
 
--- either counter fits 2
-pub either-fits : (counter : ℕ) → counterFits 2 counter ≡ true
+-- and that of either counter
+pub either-fits : (counter : ℕ) → counterFits Form.eitherCounter counter ≡ true
 unfolding counterFits
-either-fits counter = or-true (eqb 2 (min counter 1))
+either-fits counter = or-true (eqb Form.eitherCounter (min counter 1))

@@ -6,6 +6,7 @@ use native.Mathlib.Omega.{arith}
 use mathlib.Core.Bool.{Bool, true, false, cond}
 use mathlib.Core.List.{List}
 use lib.Dec.{eqb}
+use Rattle.table.specs.Form.{toLeft, toRight}
 use Rattle.table.specs.Table.{Table}
 use Rattle.table.specs.WellFormed.{InRange}
 use Rattle.cells.specs.Cell.{last, moved}
@@ -54,7 +55,7 @@ either-at-most false low low′ = low′
 pub moved-inside : (w : List ℕ) (code cell : ℕ) → moved w code cell ≤ last w
 unfolding moved
 moved-inside w code cell =
-    either-at-most (eqb code 0) zero-le (either-at-most (eqb code 128) (le-refl _) (omega arith))
+    either-at-most (eqb code toLeft) zero-le (either-at-most (eqb code toRight) (le-refl _) (omega arith))
 
 -- what is reached is a state of the table, a cell of the word and a counter within the limit
 pub reach-within

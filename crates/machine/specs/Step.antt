@@ -6,6 +6,7 @@ use mathlib.Core.Option.{Option, none, some}
 use mathlib.Core.List.{List, List·Memᴰ}
 use lib.ListN.{length, getD}
 use lib.Dec.{leb, ltb, eqb}
+use Rattle.table.specs.Form as Form
 use Rattle.table.specs.Table.{Row, Table}
 use Rattle.cells.specs.Cell.{Symbol, leftMark, letter, rightMark, symbolOn, moved}
 
@@ -16,18 +17,18 @@ pub record Situation : Type 0 where
 
 -- whether a row's symbol, over this alphabet, is what stands on the cell
 unfoldable pub symbolFits : List ℕ → ℕ → Symbol → Bool
-symbolFits alphabet code leftMark = eqb code 16 || eqb code 18
-symbolFits alphabet code (letter b) = (ltb code (length alphabet) && eqb (getD alphabet code 0) b) || eqb code 18
-symbolFits alphabet code rightMark = eqb code 17 || eqb code 18
+symbolFits alphabet code leftMark = eqb code Form.leftMark || eqb code Form.anySymbol
+symbolFits alphabet code (letter b) = (ltb code (length alphabet) && eqb (getD alphabet code 0) b) || eqb code Form.anySymbol
+symbolFits alphabet code rightMark = eqb code Form.rightMark || eqb code Form.anySymbol
 
--- whether a row's test (0 zero, 1 above zero, 2 either) fits the counter
+-- whether a row's test (0 zero, 1 above zero, or either) fits the counter
 unfoldable pub counterFits : ℕ → ℕ → Bool
-counterFits test counter = eqb test (min counter 1) || eqb test 2
+counterFits test counter = eqb test (min counter 1) || eqb test Form.eitherCounter
 
--- the counter changed by code - 31; below zero it is zero where it stops there, and else the row can't be taken
+-- the counter changed by what the code is above or below `noChange`; below zero it is zero where it stops there, and else the row can't be taken
 unfoldable pub changed : Bool → ℕ → ℕ → Option ℕ
 changed stops code counter =
-    cond (leb 31 (counter + code)) (some (counter + code - 31)) (cond stops (some 0) none)
+    cond (leb Form.noChange (counter + code)) (some (counter + code - Form.noChange)) (cond stops (some 0) none)
 
 unfoldable pub rowFits : Table → List ℕ → Row → Situation → Bool
 rowFits t word r s =

@@ -2,6 +2,7 @@
 use cells::Symbol;
 use cells::head;
 use table::Row;
+use table::form;
 ghost use mathlib.Core.Path.{_≡_};
 ghost use mathlib.Core.Bool.{_&&_};
 ghost use mathlib.Core.Option.{some};
@@ -21,6 +22,8 @@ pub enum Outcome {
     OverLimit,
 }
 
+const NO_CHANGE: usize = form::NO_CHANGE as usize;
+
 fn wide(code: u8) -> usize
     ensures { λ r. ⌜ r ≡ code ⌝ }
 {
@@ -35,7 +38,7 @@ fn letter_fits(image: &[u8], code: u8, b: u8) -> bool
     if table::letter_count(image) <= at {
         return false;
     }
-    if image.len() <= at + 7 {
+    if image.len() <= at + form::LETTERS_PLACE {
         return false;
     }
     table::letter_at(image, at) == b
@@ -45,13 +48,13 @@ fn letter_fits(image: &[u8], code: u8, b: u8) -> bool
 pub fn symbol_fits(image: &[u8], code: u8, seen: Symbol) -> bool
     ensures { λ r. ⌜ r ≡ symbolFits (tableOf (now (image .entry)) .alphabet) code (symbolIs seen) ⌝ }
 {
-    if code == 18 {
+    if code == form::ANY_SYMBOL {
         return true;
     }
     match seen {
-        Symbol::LeftMark => code == 16,
+        Symbol::LeftMark => code == form::LEFT_MARK,
         Symbol::Letter(b) => letter_fits(image, code, b),
-        Symbol::RightMark => code == 17,
+        Symbol::RightMark => code == form::RIGHT_MARK,
     }
 }
 
@@ -59,21 +62,25 @@ pub fn symbol_fits(image: &[u8], code: u8, seen: Symbol) -> bool
 pub fn counter_fits(test: u8, counter: usize) -> bool
     ensures { λ r. ⌜ r ≡ counterFits test counter ⌝ }
 {
-    if test == 2 {
+    if test == form::EITHER_COUNTER {
         return true;
     }
-    if counter == 0 { test == 0 } else { test == 1 }
+    if counter == 0 {
+        test == form::ZERO_COUNTER
+    } else {
+        test == form::ABOVE_ZERO
+    }
 }
 
-// A change of the counter by code - 31, within a limit, on the way to a cell.
+// A change of the counter by what the code is above or below NO_CHANGE, within a limit, on the way to a cell.
 fn changed(stops: bool, code: u8, counter: usize, cell: usize, limit: usize) -> Outcome
     ensures { λ r. ⌜ r ≡ outcomeOf limit cell (changed stops code counter) ⌝ }
 {
     let by = wide(code);
-    if 31 <= by {
-        return raised(by - 31, counter, cell, limit);
+    if NO_CHANGE <= by {
+        return raised(by - NO_CHANGE, counter, cell, limit);
     }
-    let down = 31 - by;
+    let down = NO_CHANGE - by;
     if down <= counter {
         return raised(0, counter - down, cell, limit);
     }

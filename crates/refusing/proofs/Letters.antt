@@ -6,7 +6,9 @@ use mathlib.Core.List.{List, List·Memᴰ}
 use lib.ListN.{length, length-take, length-drop, drop}
 use Rattle.table.specs.Table.{Table}
 use Rattle.table.specs.WellFormed.{IsImage}
-use Rattle.table.specs.Fields.{lettersOf, letterOf, tableOf}
+use Rattle.table.specs.Form.{lettersPlace}
+use Rattle.table.specs.Fields.{lettersOf, letterOf, rowCount, tableOf}
+use Rattle.table.proofs.RowList.{place-low}
 use Rattle.table.proofs.Places.{place-of, member-at}
 use Rattle.table.proofs.Encoded.{image-tail}
 
@@ -14,7 +16,7 @@ use Rattle.table.proofs.Encoded.{image-tail}
 pub letters-whole : {t : Table} {image : List ℕ} → IsImage t image → length (tableOf image .alphabet) ≡ lettersOf image
 unfolding tableOf
 letters-whole {image = image} is =
-    length-take (lettersOf image) (drop 7 image) ∙ omega (arith, length-drop 7 image, image-tail is .end)
+    length-take (lettersOf image) (drop lettersPlace image) ∙ omega (arith, length-drop lettersPlace image, image-tail is .end, place-low image (rowCount image))
 
 module _ (image : List ℕ) (b : ℕ) (whole : length (tableOf image .alphabet) ≡ lettersOf image) where
   -- a byte is a letter if it stands among the letters

@@ -7,13 +7,15 @@ use mathlib.Core.Bool.{Bool, true, false}
 use mathlib.Core.List.{List, [], _∷_, _++_, append-nil}
 use lib.ListN.{length, take, drop}
 use lib.Dec.{eqb}
+use Rattle.table.specs.Form.{editionPlace, alphabetTag, lettersPlace, stopsTag, stopsPlace, statesTag, statesPlace, acceptingTag, acceptingPlace, acceptingBytes, rowsTag, rowsLength, bytesOf}
 use Rattle.table.specs.Table.{Table}
 use Rattle.table.specs.Image.{twoBytes, field, rowsBytes, flag, edition, encode}
 use Rattle.table.specs.WellFormed.{IsImage}
-use Rattle.table.specs.Fields.{byteAt, twoAt, lettersOf, rowCount, rowsFrom, tableOf, HeadRight, MiddleRight, TailRight}
-use Rattle.table.proofs.Image.{length-rows, length-encode}
+use Rattle.table.specs.Fields.{byteAt, twoAt, lettersOf, widthOf, rowPlace, rowCount, rowsFrom, tableOf, HeadRight, MiddleRight, TailRight}
+use Rattle.table.proofs.Width.{rows-in-bytes}
+use Rattle.table.proofs.Image.{length-rows, rows-wide, length-encode}
 use Rattle.table.proofs.Standing.{Stands, stands-field, stands-byte, stands-value, stands-after, stands-next}
-use Rattle.table.proofs.RowList.{rows-of-bytes}
+use Rattle.table.proofs.RowList.{rows-of-bytes, place-first}
 
 -- the byte of a flag tells it
 of-flag : (b : Bool) → eqb (flag b) 1 ≡ b
@@ -42,51 +44,52 @@ from3 t = field 3 (flag (t .stops) ∷ []) ++ from4 t
 abbrev from2 : Table → List ℕ
 from2 t = field 2 (t .alphabet) ++ from3 t
 
-encode-fields : (t : Table) → encode t ≡ field 1 (edition ∷ []) ++ from2 t
+encode-fields : (t : Table) → encode t ≡ field 1 (edition t ∷ []) ++ from2 t
 unfolding encode
 encode-fields t = rw (append-nil (field 6 (rowsBytes (t .rows)))) refl
 
 module _ {t : Table} {image : List ℕ} (is : IsImage t image) where
-  first : Stands image 0 1 (edition ∷ []) (from2 t)
+  first : Stands image 0 1 (edition t ∷ []) (from2 t)
   first = record { bytes = is .encoded ∙ encode-fields t }
 
-  second : Stands image 4 2 (t .alphabet) (from3 t)
-  second = stands-next first 4 refl
+  second : Stands image alphabetTag 2 (t .alphabet) (from3 t)
+  second = stands-next first alphabetTag refl
 
   letters : lettersOf image ≡ length (t .alphabet)
   letters = omega (arith, stands-field second .many, is .inRange .fewLetters)
 
-  third : Stands image (lettersOf image + 7) 3 (flag (t .stops) ∷ []) (from4 t)
-  third = stands-next second (lettersOf image + 7) (omega (arith, letters))
+  third : Stands image (stopsTag (lettersOf image)) 3 (flag (t .stops) ∷ []) (from4 t)
+  third = stands-next second (stopsTag (lettersOf image)) (omega (arith, letters))
 
-  fourth : Stands image (lettersOf image + 11) 4 (twoBytes (t .states)) (from5 t)
+  fourth : Stands image (statesTag (lettersOf image)) 4 (twoBytes (t .states)) (from5 t)
   unfolding twoBytes
-  fourth = stands-next third (lettersOf image + 11) (omega arith)
+  fourth = stands-next third (statesTag (lettersOf image)) (omega arith)
 
-  fifth : Stands image (lettersOf image + 16) 5 (t .accepting) (from6 t)
+  fifth : Stands image (acceptingTag (lettersOf image)) 5 (t .accepting) (from6 t)
   unfolding twoBytes
-  fifth = stands-next fourth (lettersOf image + 16) (omega arith)
+  fifth = stands-next fourth (acceptingTag (lettersOf image)) (omega arith)
 
-  sixth : Stands image (lettersOf image + 35) 6 (rowsBytes (t .rows)) []
-  sixth = stands-next fifth (lettersOf image + 35) (omega (arith, is .inRange .sixteen))
+  sixth : Stands image (rowsTag (lettersOf image)) 6 (rowsBytes (t .rows)) []
+  sixth = stands-next fifth (rowsTag (lettersOf image)) (omega (arith, is .inRange .sixteen))
 
-  stops-byte : byteAt image (lettersOf image + 10) ≡ flag (t .stops)
-  stops-byte = stands-byte third (lettersOf image + 10) 0 (omega arith) (omega arith)
+  stops-byte : byteAt image (stopsPlace (lettersOf image)) ≡ flag (t .stops)
+  stops-byte = stands-byte third (stopsPlace (lettersOf image)) 0 (omega arith) (omega arith)
 
-  states-two : twoAt image (lettersOf image + 14) ≡ t .states
+  states-two : twoAt image (statesPlace (lettersOf image)) ≡ t .states
   unfolding twoBytes
-  states-two = omega (arith, stands-byte fourth (lettersOf image + 14) 0 (omega arith) (omega arith), stands-byte fourth (lettersOf image + 14 + 1) 1 (omega arith) (omega arith))
+  states-two = omega (arith, stands-byte fourth (statesPlace (lettersOf image)) 0 (omega arith) (omega arith), stands-byte fourth (statesPlace (lettersOf image) + 1) 1 (omega arith) (omega arith))
 
-  rows-two : twoAt image (lettersOf image + 36) ≡ 8 * length (t .rows)
-  rows-two = ap (twoAt image) (sym (add-assoc (lettersOf image) 35 1)) ∙ stands-field sixth .many ∙ length-rows (t .rows)
+  part-length : length (rowsBytes (t .rows)) ≡ bytesOf (widthOf image) (length (t .rows))
+  part-length = rows-wide (widthOf image) (t .rows)
+
+  rows-two : twoAt image (rowsLength (lettersOf image)) ≡ bytesOf (widthOf image) (length (t .rows))
+  rows-two = ap (twoAt image) (sym (add-assoc (lettersOf image) 35 1)) ∙ stands-field sixth .many ∙ part-length
 
   rows-many : rowCount image ≡ length (t .rows)
-  rows-many = omega (arith, rows-two)
+  rows-many = rw rows-two (rows-in-bytes (widthOf image) (length (t .rows)))
 
   rows-same : rowsFrom image 0 (rowCount image) ≡ t .rows
-  rows-same =
-      let start : lettersOf image + 38 + 0 * 8 ≡ lettersOf image + 35 + 3 = omega arith in
-      rw rows-many (rows-of-bytes image 0 (t .rows) [] (stands-after sixth (lettersOf image + 38 + 0 * 8) start))
+  rows-same = rw rows-many (rows-of-bytes image 0 (t .rows) [] (stands-after sixth (rowPlace image 0) (omega (arith, place-first image))))
 
   -- the fields of a table's image say the table
   pub image-table : tableOf image ≡ t
@@ -99,17 +102,17 @@ module _ {t : Table} {image : List ℕ} (is : IsImage t image) where
     rows = rows-same i;
   }
     where
-      alphabet : take (lettersOf image) (drop 7 image) ≡ t .alphabet
-      alphabet = rw letters (stands-value second 7 refl)
+      alphabet : take (lettersOf image) (drop lettersPlace image) ≡ t .alphabet
+      alphabet = rw letters (stands-value second lettersPlace refl)
 
-      accepting : take 16 (drop (lettersOf image + 19) image) ≡ t .accepting
-      accepting = rw (is .inRange .sixteen) at (stands-value fifth (lettersOf image + 19) (omega arith))
+      accepting : take acceptingBytes (drop (acceptingPlace (lettersOf image)) image) ≡ t .accepting
+      accepting = rw (is .inRange .sixteen) at (stands-value fifth (acceptingPlace (lettersOf image)) (omega arith))
 
   -- and stand where they should
   pub image-head : HeadRight image
   image-head = record {
     first = stands-field first;
-    edition = stands-byte first 3 0 refl (omega arith);
+    named = stands-byte first editionPlace 0 refl (omega arith);
     second = rw letters (stands-field second);
     someLetter = rw letters (is .inRange .someLetter);
     fewLetters = rw letters (is .inRange .fewLetters);
@@ -126,9 +129,10 @@ module _ {t : Table} {image : List ℕ} (is : IsImage t image) where
   }
 
   pub image-tail : TailRight image
+  unfolding rowPlace
   image-tail = record {
     fifth = rw (is .inRange .sixteen) at (stands-field fifth);
-    sixth = record { tag = stands-field sixth .tag; many = stands-field sixth .many ∙ length-rows (t .rows) ∙ omega (arith, rows-many) };
+    sixth = record { tag = stands-field sixth .tag; many = stands-field sixth .many ∙ part-length ∙ ap (bytesOf (widthOf image)) (sym rows-many) };
     fewRows = rw rows-many (is .inRange .fewRows);
-    end = ap length (is .encoded) ∙ length-encode t ∙ omega (arith, letters, rows-many, is .inRange .sixteen);
+    end = ap length (is .encoded) ∙ length-encode t ∙ rw rows-many (omega (arith, letters, is .inRange .sixteen, length-rows (t .rows), part-length));
   }

@@ -6,6 +6,7 @@ use mathlib.Core.Bool.{Bool, true, false}
 use mathlib.Core.List.{List, [], _∷_, _++_}
 use lib.ListN.{length, getD, take, drop, length-append}
 use lib.Seq.{take-at, drop-at}
+use Rattle.table.specs.Form.{Width, eight, bytesOf}
 use Rattle.table.specs.Table.{Row, Table}
 use Rattle.table.specs.Image.{twoBytes, field, rowBytes, rowsBytes, flag, edition, encode}
 use Rattle.table.specs.WellFormed.{IsImage}
@@ -62,6 +63,11 @@ unfolding rowsBytes rowBytes twoBytes
 length-rows [] = refl
 length-rows (r ∷ rs) = omega (arith, length-rows rs)
 
+-- in whichever width
+pub rows-wide : (w : Width) (rs : List Row) → length (rowsBytes rs) ≡ bytesOf w (length rs)
+unfolding bytesOf
+rows-wide eight rs = omega (arith, length-rows rs)
+
 -- the bytes of rows tell the rows
 rows-once : (ps qs : List Row) → rowsBytes ps ≡ rowsBytes qs → ps ≡ qs
 unfolding rowsBytes rowBytes twoBytes
@@ -76,7 +82,7 @@ rows-once (p ∷ ps) (q ∷ qs) e =
 pub encode-once : (t u : Table) → encode t ≡ encode u → t ≡ u
 unfolding encode
 encode-once t u e =
-    let first = field-once 1 (edition ∷ []) (edition ∷ []) _ _ e in
+    let first = field-once 1 (edition t ∷ []) (edition u ∷ []) _ _ e in
     let alphabet = field-once 2 (t .alphabet) (u .alphabet) _ _ (first .1) in
     let stops = field-once 3 (flag (t .stops) ∷ []) (flag (u .stops) ∷ []) _ _ (alphabet .1) in
     let states = field-once 4 (twoBytes (t .states)) (twoBytes (u .states)) _ _ (stops .1) in

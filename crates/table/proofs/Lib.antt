@@ -1,4 +1,5 @@
 -- Laws of images and of refusals.
+pub mod Width
 pub mod Image
 pub mod Standing
 pub mod RowList
@@ -8,3 +9,4 @@ pub mod Reading
 pub mod Refusal
 pub mod RowCode
 pub mod Telling
+pub mod Showing

@@ -1,19 +1,21 @@
 -- What the readers of an image read: the fields, a byte past the end, and a row.
 use Prim.Native.Nat.{ℕ, _+_, _*_, _/_, _%_, _^_, _≤_, _<_}
-use native.Mathlib.Nat.{add-comm}
+use native.Mathlib.Nat.{add-comm, add-assoc}
 use native.Mathlib.Decide.{decLt}
 use native.Mathlib.Omega.{arith}
-use mathlib.Core.Path.{_≡_, sym, ap, _∙_}
+use mathlib.Core.Path.{_≡_, refl, sym, ap, _∙_}
 use mathlib.Core.List.{List}
 use lib.ListN.{length, getD, take, drop, length-take, length-drop, List·getD-eq-default}
 use lib.Dec.{eqb}
 use lib.Seq.{length-take-le, getD-take, getD-drop}
 use Rattle.bits.specs.Bit.{bit, Bytes}
 use Rattle.bits.proofs.Change.{bit-past}
+use Rattle.table.specs.Form.{lettersPlace, stopsPlace, statesPlace, acceptingPlace, acceptingBytes, rowsPlace, rowsLength, wide, bytesOf, rowsIn, widthFor}
 use Rattle.table.specs.Table.{Row}
-use Rattle.table.specs.Fields.{byteAt, twoAt, lettersOf, letterOf, rowFrom, rowOf, tableOf}
+use Rattle.table.specs.Fields.{byteAt, twoAt, lettersOf, letterOf, widthOf, rowPlace, rowFrom, rowOf, rowCount, tableOf}
 use Rattle.table.specs.RowCode.{rowIs}
 use Rattle.table.specs.declared.Row as Code
+use Rattle.table.proofs.RowList.{place-low}
 
 -- a byte of a part
 part-inside : (l : List ℕ) (n m i : ℕ) → i < n → getD (take n (drop m l)) i 0 ≡ getD l (m + i) 0
@@ -35,54 +37,88 @@ module _ (image : List ℕ) where
   -- the alphabet is as long as it says, if the image is long enough
   pub alphabet-length : lettersOf image + 7 ≤ length image → length (tableOf image .alphabet) ≡ lettersOf image
   unfolding tableOf
-  alphabet-length long = length-take-le (lettersOf image) (drop 7 image) (omega (arith, length-drop 7 image))
+  alphabet-length long = length-take-le (lettersOf image) (drop lettersPlace image) (omega (arith, length-drop lettersPlace image))
 
   -- letter c
-  pub letter-inside : (c : ℕ) → c < lettersOf image → byteAt image (c + 7) ≡ letterOf image c
+  pub letter-inside : (c : ℕ) → c < lettersOf image → byteAt image (c + lettersPlace) ≡ letterOf image c
   unfolding tableOf
-  letter-inside c low = ap (byteAt image) (add-comm c 7) ∙ sym (part-inside image (lettersOf image) 7 c low)
+  letter-inside c low = ap (byteAt image) (add-comm c lettersPlace) ∙ sym (part-inside image (lettersOf image) lettersPlace c low)
 
   pub letter-past : (c : ℕ) → lettersOf image ≤ c → letterOf image c ≡ 0
   unfolding tableOf
-  letter-past c high = part-past image (lettersOf image) 7 c high
+  letter-past c high = part-past image (lettersOf image) lettersPlace c high
 
   -- the bit of state s
   pub accept-inside
-      : (s : ℕ) → s < 128 → byteAt image (lettersOf image + 19 + s / 8) / 2 ^ (s % 8) % 2 ≡ bit (tableOf image .accepting) s
+      : (s : ℕ) → s < 128 → byteAt image (acceptingPlace (lettersOf image) + s / 8) / 2 ^ (s % 8) % 2 ≡ bit (tableOf image .accepting) s
   unfolding bit tableOf
   accept-inside s low =
-      ap (λ (b : ℕ). b / 2 ^ (s % 8) % 2) (sym (part-inside image 16 (lettersOf image + 19) (s / 8) (omega arith)))
+      ap (λ (b : ℕ). b / 2 ^ (s % 8) % 2) (sym (part-inside image acceptingBytes (acceptingPlace (lettersOf image)) (s / 8) (omega arith)))
 
   pub accept-past : (s : ℕ) → 128 ≤ s → bit (tableOf image .accepting) s ≡ 0
   unfolding tableOf
   accept-past s high =
-      bit-past (take 16 (drop (lettersOf image + 19) image)) s (omega (arith, length-take 16 (drop (lettersOf image + 19) image)))
+      bit-past (take acceptingBytes (drop (acceptingPlace (lettersOf image)) image)) s (omega (arith, length-take acceptingBytes (drop (acceptingPlace (lettersOf image)) image)))
 
   -- a byte past the end is 0, and so is a row that starts there
   pub byte-past : (at : ℕ) → length image ≤ at → byteAt image at ≡ 0
   byte-past at past = List·getD-eq-default image 0 past
 
-  pub row-past : (i : ℕ) → length image / 8 ≤ i → rowOf image i ≡ record { from = 0; symbol = 0; test = 0; move = 0; change = 0; to = 0 }
+  pub here-past : (at : ℕ) → length image ≤ at → rowFrom image at ≡ record { from = 0; symbol = 0; test = 0; move = 0; change = 0; to = 0 }
   unfolding rowFrom
-  row-past i past =
-      let at = lettersOf image + 38 + i * 8 in
+  here-past at past =
       let zero : (j : ℕ) → byteAt image (at + j) ≡ 0 = λ j. byte-past (at + j) (omega arith) in
-      let from : twoAt image at ≡ 0 = omega (arith, byte-past at (omega arith), zero 1) in
+      let from : twoAt image at ≡ 0 = omega (arith, byte-past at past, zero 1) in
       let to : twoAt image (at + 6) ≡ 0 = omega (arith, zero 6, byte-past (at + 6 + 1) (omega arith)) in
       λ j. record { from = from j; symbol = zero 2 j; test = zero 3 j; move = zero 4 j; change = zero 5 j; to = to j }
 
+  -- a two-byte number whose low byte is past the end
+  pub two-past : (at high n : ℕ) → length image ≤ at + 1 → high ≡ byteAt image at → n ≡ high * 256 + 0 → n ≡ twoAt image at
+  two-past at high n past is told = omega (arith, is, told, byte-past (at + 1) past)
+
   -- the state that a row leaves
-  pub from-inside : (k i : ℕ) → k ≡ lettersOf image → twoAt image (k + 38 + i * 8) ≡ rowOf image i .from
+  pub from-here : (at : ℕ) → twoAt image at ≡ rowFrom image at .from
   unfolding rowFrom
-  from-inside k i e = ap (λ (n : ℕ). twoAt image (n + 38 + i * 8)) e
+  from-here at = refl
 
-  pub states-inside : (k : ℕ) → k ≡ lettersOf image → twoAt image (k + 14) ≡ tableOf image .states
+  -- where row i is read: where it stands, and past the end at the end
+  pub place-inside : (first i : ℕ) → first ≡ rowsPlace (lettersOf image) → first + i * 8 ≡ rowPlace image i
+  unfolding rowPlace bytesOf widthFor
+  place-inside first i e = ap (λ (n : ℕ). n + i * 8) e
+
+  pub place-past : (i : ℕ) → length image / 8 ≤ i → rowFrom image (length image) ≡ rowOf image i
+  place-past i past =
+      here-past (length image) (omega arith) ∙ sym (here-past (rowPlace image i) (omega (arith, place-low image i)))
+
+  -- how wide rows are, and how many there are
+  pub wide-is : 8 ≡ wide (widthOf image)
+  unfolding wide widthFor
+  wide-is = refl
+
+  pub count-is : (n : ℕ) → n ≡ twoAt image (rowsLength (lettersOf image)) → n / 8 ≡ rowCount image
+  unfolding rowsIn widthFor
+  count-is n e = ap (λ (m : ℕ). m / 8) e
+
+  pub bytes-is : (n : ℕ) → n ≡ rowCount image → n * 8 ≡ bytesOf (widthOf image) (rowCount image)
+  unfolding bytesOf widthFor
+  bytes-is n e = ap (λ (m : ℕ). m * 8) e
+
+  -- two bytes tell how many rows there are
+  pub count-low : Bytes image → rowCount image < 8192
+  unfolding rowsIn widthFor
+  count-low bytes = omega (arith, bytes (rowsLength (lettersOf image)), bytes (rowsLength (lettersOf image) + 1))
+
+  pub states-inside : (k : ℕ) → k ≡ lettersOf image → twoAt image (statesPlace k) ≡ tableOf image .states
   unfolding tableOf
-  states-inside k e = ap (λ (n : ℕ). twoAt image (n + 14)) e
+  states-inside k e = ap (λ (n : ℕ). twoAt image (statesPlace n)) e
 
-  pub stops-inside : {b : ℕ} → b ≡ byteAt image (lettersOf image + 10) → eqb b 1 ≡ tableOf image .stops
+  pub stops-inside : {b : ℕ} → b ≡ byteAt image (stopsPlace (lettersOf image)) → eqb b 1 ≡ tableOf image .stops
   unfolding tableOf
   stops-inside e = ap (λ (b : ℕ). eqb b 1) e
+
+  -- the last two bytes of a row
+  pub last-two : (at n : ℕ) → n ≡ byteAt image (at + 6) * 256 + byteAt image (at + 7) → n ≡ twoAt image (at + 6)
+  last-two at n e = e ∙ ap (λ (k : ℕ). byteAt image (at + 6) * 256 + byteAt image k) (sym (add-assoc at 6 1))
 
   -- a row of the code whose numbers stand here
   pub row-is

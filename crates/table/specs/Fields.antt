@@ -7,7 +7,28 @@ use mathlib.Core.List.{List, [], _∷_}
 use lib.ListN.{length, getD, take, drop}
 use lib.Dec.{T, eqb}
 use Rattle.bits.specs.Byte.{isLetter}
+use Rattle.table.specs.Form.{
+  editionPlace,
+  alphabetTag,
+  countPlace,
+  lettersPlace,
+  stopsTag,
+  stopsPlace,
+  statesTag,
+  statesPlace,
+  acceptingTag,
+  acceptingPlace,
+  acceptingBytes,
+  rowsTag,
+  rowsLength,
+  rowsPlace,
+  Width,
+  bytesOf,
+  rowsIn,
+  widthFor,
+}
 use Rattle.table.specs.Table.{Row, Table}
+use Rattle.table.specs.Image.{edition}
 
 abbrev pub byteAt : List ℕ → ℕ → ℕ
 byteAt image i = getD image i 0
@@ -18,7 +39,7 @@ twoAt image i = byteAt image i * 256 + byteAt image (i + 1)
 
 -- how many letters the alphabet has: the low byte of tag 2's length
 abbrev pub lettersOf : List ℕ → ℕ
-lettersOf image = byteAt image 6
+lettersOf image = byteAt image countPlace
 
 -- the row whose eight bytes start here
 unfoldable pub rowFrom : List ℕ → ℕ → Row
@@ -32,24 +53,31 @@ rowFrom image at =
       to = twoAt image (at + 6);
     }
 
--- row i of an image with so many letters
+-- how many bytes a row of an image takes, by the edition that it names
+abbrev pub widthOf : List ℕ → Width
+widthOf image = widthFor (byteAt image editionPlace)
+
+-- where row i stands
+unfoldable pub rowPlace : List ℕ → ℕ → ℕ
+rowPlace image i = rowsPlace (lettersOf image) + bytesOf (widthOf image) i
+
 abbrev pub rowOf : List ℕ → ℕ → Row
-rowOf image i = rowFrom image (lettersOf image + 38 + i * 8)
+rowOf image i = rowFrom image (rowPlace image i)
 
 unfoldable pub rowsFrom : List ℕ → ℕ → ℕ → List Row
 rowsFrom image i zero = []
 rowsFrom image i (suc many) = rowOf image i ∷ rowsFrom image (suc i) many
 
 abbrev pub rowCount : List ℕ → ℕ
-rowCount image = twoAt image (lettersOf image + 36) / 8
+rowCount image = rowsIn (widthOf image) (twoAt image (rowsLength (lettersOf image)))
 
 unfoldable pub tableOf : List ℕ → Table
 tableOf image =
     record {
-      alphabet = take (lettersOf image) (drop 7 image);
-      stops = eqb (byteAt image (lettersOf image + 10)) 1;
-      states = twoAt image (lettersOf image + 14);
-      accepting = take 16 (drop (lettersOf image + 19) image);
+      alphabet = take (lettersOf image) (drop lettersPlace image);
+      stops = eqb (byteAt image (stopsPlace (lettersOf image))) 1;
+      states = twoAt image (statesPlace (lettersOf image));
+      accepting = take acceptingBytes (drop (acceptingPlace (lettersOf image)) image);
       rows = rowsFrom image 0 (rowCount image);
     }
 
@@ -67,28 +95,28 @@ pub record FieldAt (image : List ℕ) (at t n : ℕ) : Type 0 where
   pub tag : byteAt image at ≡ t
   pub many : twoAt image (at + 1) ≡ n
 
--- tags 1 and 2 are right but for the letters themselves
+-- tags 1 and 2 are right but for the letters themselves; the edition is that of what the fields say
 pub record HeadRight (image : List ℕ) : Type 0 where
   pub first : FieldAt image 0 1 1
-  pub edition : byteAt image 3 ≡ 1
-  pub second : FieldAt image 4 2 (lettersOf image)
+  pub named : byteAt image editionPlace ≡ edition (tableOf image)
+  pub second : FieldAt image alphabetTag 2 (lettersOf image)
   pub someLetter : 1 ≤ lettersOf image
   pub fewLetters : lettersOf image ≤ 16
 
 -- tags 3 and 4 are right
 pub record MiddleRight (image : List ℕ) : Type 0 where
-  pub third : FieldAt image (lettersOf image + 7) 3 1
-  pub flag : byteAt image (lettersOf image + 10) ≤ 1
-  pub fourth : FieldAt image (lettersOf image + 11) 4 2
-  pub someState : 1 ≤ twoAt image (lettersOf image + 14)
-  pub fewStates : twoAt image (lettersOf image + 14) ≤ 128
+  pub third : FieldAt image (stopsTag (lettersOf image)) 3 1
+  pub flag : byteAt image (stopsPlace (lettersOf image)) ≤ 1
+  pub fourth : FieldAt image (statesTag (lettersOf image)) 4 2
+  pub someState : 1 ≤ twoAt image (statesPlace (lettersOf image))
+  pub fewStates : twoAt image (statesPlace (lettersOf image)) ≤ 128
 
 -- tags 5 and 6 are as long as they should be, and nothing follows
 pub record TailRight (image : List ℕ) : Type 0 where
-  pub fifth : FieldAt image (lettersOf image + 16) 5 16
-  pub sixth : FieldAt image (lettersOf image + 35) 6 (rowCount image * 8)
+  pub fifth : FieldAt image (acceptingTag (lettersOf image)) 5 acceptingBytes
+  pub sixth : FieldAt image (rowsTag (lettersOf image)) 6 (bytesOf (widthOf image) (rowCount image))
   pub fewRows : rowCount image ≤ 1024
-  pub end : length image ≡ lettersOf image + 38 + rowCount image * 8
+  pub end : length image ≡ rowPlace image (rowCount image)
 
 -- letter c is a letter, and differs from each before it
 pub record LetterRight (image : List ℕ) (c : ℕ) : Type 0 where

@@ -3,6 +3,7 @@ use Prim.Native.Nat.{ℕ, _/_, _%_}
 use mathlib.Core.Bool.{Bool, true, false}
 use mathlib.Core.List.{List, [], _∷_, _++_}
 use lib.ListN.{length}
+use Rattle.table.specs.Form.{firstEdition}
 use Rattle.table.specs.Table.{Row, Table}
 
 -- a two-byte number has its high byte first
@@ -23,13 +24,13 @@ unfoldable pub flag : Bool → ℕ
 flag true = 1
 flag false = 0
 
--- the edition of the image that tag 1 names
-abbrev pub edition : ℕ
-edition = 1
+-- the edition that tag 1 names
+abbrev pub edition : Table → ℕ
+edition T = firstEdition
 
 unfoldable pub encode : Table → List ℕ
 encode T =
-    field 1 (edition ∷ [])
+    field 1 (edition T ∷ [])
     ++ (field 2 (T .alphabet)
     ++ (field 3 (flag (T .stops) ∷ [])
     ++ (field 4 (twoBytes (T .states)) ++ (field 5 (T .accepting) ++ field 6 (rowsBytes (T .rows))))))

@@ -6,7 +6,7 @@ use mathlib.Core.List.{List}
 use Rattle.bits.specs.Bit.{bit}
 
 -- symbol: 0 to k-1 a letter, 16 the left mark, 17 the right mark, 18 any. test: 0 zero, 1 above zero, 2 either.
--- move: 0 to the left mark, 128 to the right mark, 1 to 127 a move by value - 64. change: value - 31.
+-- move: 0 to the left mark, 128 to the right mark, 1 to 127 a move by value - 64. change: value - 31. (Their names: `Form.antt`.)
 pub record Row : Type 0 where
   pub from : ℕ
   pub symbol : ℕ

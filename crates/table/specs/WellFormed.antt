@@ -7,20 +7,21 @@ use lib.ListN.{length}
 use lib.Dec.{T}
 use Rattle.bits.specs.Bit.{bit, Bytes}
 use Rattle.bits.specs.Byte.{isLetter}
+use Rattle.table.specs.Form.{leftMark, anySymbol, eitherCounter, toRight, mostChange, acceptingBytes}
 use Rattle.table.specs.Table.{Row, Table, Accepting}
 use Rattle.table.specs.Image.{encode}
 
 -- with k letters: a letter, or a mark or any
 abbrev pub SymbolCode : ℕ → ℕ → Type 0
-SymbolCode k code = (code < k) ⊎ ((16 ≤ code) × (code ≤ 18))
+SymbolCode k code = (code < k) ⊎ ((leftMark ≤ code) × (code ≤ anySymbol))
 
 pub record RowInRange (t : Table) (r : Row) : Type 0 where
   pub from : r .from < t .states
   pub notAccepting : ¬ Accepting t (r .from)
   pub symbol : SymbolCode (length (t .alphabet)) (r .symbol)
-  pub test : r .test ≤ 2
-  pub move : r .move ≤ 128
-  pub change : r .change ≤ 62
+  pub test : r .test ≤ eitherCounter
+  pub move : r .move ≤ toRight
+  pub change : r .change ≤ mostChange
   pub to : r .to < t .states
 
 pub record InRange (t : Table) : Type 0 where
@@ -30,7 +31,7 @@ pub record InRange (t : Table) : Type 0 where
   pub different : List·Nodup (t .alphabet)
   pub someState : 1 ≤ t .states
   pub fewStates : t .states ≤ 128
-  pub sixteen : length (t .accepting) ≡ 16
+  pub sixteen : length (t .accepting) ≡ acceptingBytes
   pub bytes : Bytes (t .accepting)
   pub noOtherBit : (s : ℕ) → t .states ≤ s → bit (t .accepting) s ≡ 0
   pub fewRows : length (t .rows) ≤ 1024

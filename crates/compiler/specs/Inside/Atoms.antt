@@ -8,13 +8,14 @@ use Rattle.reader.specs.declared.atoms.Symbol.{Symbol}
 use Rattle.reader.specs.declared.atoms.Symbol.the-variants as Symbol
 use Rattle.reader.specs.declared.atoms.Atom.{Atom}
 use Rattle.reader.specs.declared.atoms.Atom.the-variants as Atom
-use Rattle.construction.specs.Construction.{leftMark, rightMark, anySymbol, testRow, indexIn, allSymbols, without, symbolRows}
+use Rattle.table.specs.Form.{leftMark, rightMark, anySymbol, zeroCounter, aboveZero}
+use Rattle.construction.specs.Construction.{testRow, indexIn, allSymbols, without, symbolRows}
 use Rattle.compiler.specs.Inside.Writing.{Sheet, Holds}
 
 -- a test of the counter walked as `==`, or as `!=`
 abbrev pub counterRows : Bool → ℕ → ℕ → List Row
-counterRows true p q = testRow anySymbol 0 p q ∷ []
-counterRows false p q = testRow anySymbol 1 p q ∷ []
+counterRows true p q = testRow anySymbol zeroCounter p q ∷ []
+counterRows false p q = testRow anySymbol aboveZero p q ∷ []
 
 -- of what is read, by its code
 abbrev pub readRows : List ℕ → Bool → ℕ → ℕ → ℕ → List Row

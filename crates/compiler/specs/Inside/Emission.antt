@@ -23,9 +23,8 @@ use Rattle.rule.specs.Grammar.{
   IsStatements,
 }
 use Rattle.rule.specs.Inside.Within.{AtomWithin, ConditionWithin, StatementWithin, RestWithin, StatementsWithin, ArmsWithin}
+use Rattle.table.specs.Form.{anySymbol, eitherCounter}
 use Rattle.construction.specs.Construction.{
-  anySymbol,
-  eitherCounter,
   free,
   atomRows,
   Added,

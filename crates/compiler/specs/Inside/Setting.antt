@@ -6,6 +6,7 @@ use mathlib.Core.List.{List, [], _∷_, _++_}
 use lib.ListN.{length, drop}
 use Rattle.text.specs.Token.{w, s}
 use Rattle.text.specs.Tokens.{_at_}
+use Rattle.table.specs.Form.{lettersPlace}
 use Rattle.table.specs.Image.{encode}
 use Rattle.rule.specs.Tree.{Letter, Order, Program, letterBytes}
 use Rattle.rule.specs.Grammar.{Ts, IsLetters, IsDecrement, IsSettings}
@@ -37,7 +38,7 @@ pub record Letters (text : List ℕ) (from : ℕ) (out : List ℕ) : Type 0 wher
 -- the image has them, and the text goes on behind the `]`
 pub record Listing (text before after : List ℕ) (us : Ts) (l : List Letter) (r : Listed) : Type 0 where
   pub here : Here text (r .at) us
-  pub bytes : after ≡ over before 7 (letterBytes l)
+  pub bytes : after ≡ over before lettersPlace (letterBytes l)
   pub count : r .count ≡ length l
 
 pub record Lists (text : List ℕ) (from : ℕ) (before after : List ℕ) (r : Listed) : Type 0 where
@@ -66,7 +67,7 @@ pub record Settings (text out : List ℕ) : Type 0 where
 -- they are read, and the image has the letters
 pub record Settling (text before after : List ℕ) (us : Ts) (l : List Letter) (d : Bool) (r : Settled) : Type 0 where
   pub here : Here text (r .at) us
-  pub bytes : after ≡ over before 7 (letterBytes l)
+  pub bytes : after ≡ over before lettersPlace (letterBytes l)
   pub count : r .count ≡ length l
   pub stops : r .stops ≡ d
 

@@ -5,8 +5,9 @@ use mathlib.Core.Bool.{Bool}
 use mathlib.Core.List.{List, [], _∷_, _++_}
 use lib.ListN.{length, drop, replicate}
 use Rattle.bits.specs.Inside.Over.{over}
+use Rattle.table.specs.Form.{firstEdition, lettersPlace, acceptingBytes, rowsPlace, rowWidth}
 use Rattle.table.specs.Table.{Row}
-use Rattle.table.specs.Image.{twoBytes, field, rowsBytes, flag, edition}
+use Rattle.table.specs.Image.{twoBytes, field, rowsBytes, flag}
 use Rattle.construction.specs.Construction.{withBits, indexIn}
 use Rattle.construction.specs.Compile.{imageRoom}
 
@@ -21,23 +22,23 @@ pub record Sheet : Type 0 where
 -- the fields before the accept bytes, with the tag and the length of those
 unfoldable pub front : Sheet → List ℕ
 front h =
-    field 1 (edition ∷ [])
+    field 1 (firstEdition ∷ [])
     ++ (field 2 (h .alphabet)
     ++ (field 3 (flag (h .stops) ∷ [])
-    ++ (field 4 (twoBytes (h .states)) ++ (5 ∷ twoBytes 16))))
+    ++ (field 4 (twoBytes (h .states)) ++ (5 ∷ twoBytes acceptingBytes))))
 
 -- the accept bytes as they are so far
 abbrev pub acceptBytes : List ℕ → List ℕ
-acceptBytes accepting = withBits (replicate 16 0) accepting
+acceptBytes accepting = withBits (replicate acceptingBytes 0) accepting
 
 -- the image so far. The length of the rows' field is the final one from the start.
 unfoldable pub written : Sheet → List ℕ → List Row → List ℕ
 written h accepting rows =
-    front h ++ (acceptBytes accepting ++ (6 ∷ (twoBytes (8 * h .count) ++ rowsBytes rows)))
+    front h ++ (acceptBytes accepting ++ (6 ∷ (twoBytes (rowWidth * h .count) ++ rowsBytes rows)))
 
 -- where the next row is written
 abbrev pub rowPlace : Sheet → List Row → ℕ
-rowPlace h rows = length (h .alphabet) + 38 + 8 * length rows
+rowPlace h rows = rowsPlace (length (h .alphabet)) + rowWidth * length rows
 
 -- the buffer holds the image so far, and then its old bytes; there is room for all that is to come
 pub record Holds (h : Sheet) (accepting : List ℕ) (rows : List Row) (out : List ℕ) : Type 0 where
@@ -80,7 +81,7 @@ pub record Marks (before after : List ℕ) (state : ℕ) : Type 0 where
 -- the header is written around the letters, which stand already
 pub record Heads (before after : List ℕ) (count : ℕ) (stops : Bool) (states rows : ℕ) : Type 0 where
   pub heads : (old alphabet : List ℕ)
-      → before ≡ over old 7 alphabet
+      → before ≡ over old lettersPlace alphabet
       → count ≡ length alphabet
       → Holds (record { old = old; alphabet = alphabet; stops = stops; states = states; count = rows }) [] [] after
 

@@ -2,6 +2,7 @@
 use borrow.Author.Count.{below-none, below-more}
 use Prim.Native.Nat.{ℕ, _≤_, _<_, _-_}
 use native.Mathlib.Omega.{arith}
+use Rattle.table.specs.Fields.{tableOf}
 use Rattle.judge.specs.Inner.{AcceptsIn}
 use mathlib.Core.Path.{refl}
 use Rattle.table.proofs.Telling.{tells-yes, tells-no}
@@ -10,7 +11,7 @@ use Rattle.judge.proofs.accepted.Statement.{statement}
 use Rattle.judge.proofs.accepted.Tie as tie
 
 abbrev Inv-loop : tie.InvT-loop
-Inv-loop image marks state₀ state = (state ≤ 128) × ((s : ℕ) → s < state → ¬ AcceptsIn image marks s)
+Inv-loop image marks state₀ state = (state ≤ 128) × ((s : ℕ) → s < state → ¬ AcceptsIn (tableOf image) marks s)
 
 abbrev μ-loop : tie.MeasureT-loop
 μ-loop image marks state₀ state = 128 - state

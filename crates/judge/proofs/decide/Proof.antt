@@ -12,7 +12,7 @@ clear-requires : tie.Need-clear-requires
 clear-requires c κs = search needs
 
 search-requires : tie.Need-search-requires
-search-requires c κs = cleared-unmarked (c .before .before .before .before .before .before .before .before .pre) (c .before .before .before .clear .ensures)
+search-requires c κs = cleared-unmarked (c .before .before .before .before .before .before .before .before .before .pre) (c .before .before .before .clear .ensures)
 
 accepted-requires : tie.Need-accepted-requires
 accepted-requires c κs = search needs

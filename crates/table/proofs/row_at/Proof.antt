@@ -1,43 +1,17 @@
--- The row that starts where row i does; past the end it is all 0. Assumes nothing.
-use mathlib.Core.Path.{sym}
-use Rattle.table.proofs.Reading.{row-past}
+-- The row that stands for row i. Assumes nothing.
+use mathlib.Core.Path.{_∙_}
 use borrow.Author.Needs.{needs}
 use Rattle.table.proofs.row_at.Statement.{statement}
 use Rattle.table.proofs.row_at.Tie as tie
 
-letters-requires : tie.Need-letters-requires
-letters-requires c κs = search needs
+row-place-requires : tie.Need-row-place-requires
+row-place-requires c κs = search needs
 
-cast-row-here : tie.Need-cast-row-here
-cast-row-here c = search needs
-
-add-row-here : tie.Need-add-row-here
-add-row-here c = search needs
-
-mul-row-here : tie.Need-mul-row-here
-mul-row-here c = search needs
-
-add-row-here-2 : tie.Need-add-row-here-2
-add-row-here-2 c = search needs
-
-row-here-requires : tie.Need-row-here-requires
-row-here-requires c κs = search needs
+cut-row-requires : tie.Need-cut-row-requires
+cut-row-requires c κs = search needs
 
 returns : tie.Need-returns
-returns c = rw (c .before .letters .ensures) at (c .row-here .ensures)
-
-returns-2 : tie.Need-returns-2
-returns-2 c = sym (row-past _ _ (c .if1 .left))
+returns c = c .cut-row .ensures ∙ c .before .row-place .ensures
 
 pub row-at-spec : {M : Type 1} → statement M
-row-at-spec =
-    tie.close
-    (tie.spec
-    letters-requires
-    cast-row-here
-    add-row-here
-    mul-row-here
-    add-row-here-2
-    row-here-requires
-    returns
-    returns-2)
+row-at-spec = tie.close (tie.spec row-place-requires cut-row-requires returns)

@@ -1,6 +1,5 @@
--- The length of tag 6, in eights. Assumes nothing.
-use Prim.Native.Nat.{ℕ, _/_}
-use mathlib.Core.Path.{ap}
+-- The length of tag 6, in rows. Assumes nothing.
+use Rattle.table.proofs.Reading.{count-is}
 use borrow.Author.Needs.{needs}
 use Rattle.table.proofs.row_count.Statement.{statement}
 use Rattle.table.proofs.row_count.Tie as tie
@@ -18,7 +17,7 @@ two-at-requires : tie.Need-two-at-requires
 two-at-requires c κs = search needs
 
 returns : tie.Need-returns
-returns c = ap (λ (n : ℕ). n / 8) (rw (c .before .letters .ensures) at (c .two-at .ensures))
+returns c = count-is (c .before .before .before .args .image .now) _ (rw (c .before .letters .ensures) at (c .two-at .ensures))
 
 pub row-count-spec : {M : Type 1} → statement M
 row-count-spec =

@@ -1,7 +1,5 @@
--- Each byte is below 256, and one past the end is 0. Assumes nothing.
-use Prim.Native.Nat.{_+_}
-use native.Mathlib.Omega.{arith}
-use Rattle.table.proofs.Reading.{byte-past}
+-- Both bytes, or the one that is the last. Assumes that a next place fits a number.
+use Rattle.table.proofs.Reading.{two-past}
 use borrow.Author.Needs.{needs}
 use Rattle.table.proofs.two_at.Statement.{statement}
 use Rattle.table.proofs.two_at.Tie as tie
@@ -9,62 +7,38 @@ use Rattle.table.proofs.two_at.Tie as tie
 add-next : tie.Need-add-next
 add-next c = search needs
 
-shared-slice-read-result : tie.Need-shared-slice-read-result
-shared-slice-read-result c = search needs
+shared-slice-read-two : tie.Need-shared-slice-read-two
+shared-slice-read-two c = search needs
 
-cast-result : tie.Need-cast-result
-cast-result c = omega (arith, c .shared-slice-known2 .given (c .before .before .before .args .at))
+shared-slice-read-two-2 : tie.Need-shared-slice-read-two-2
+shared-slice-read-two-2 c = search needs
 
-mul-result : tie.Need-mul-result
-mul-result c = omega (arith, c .shared-slice-known2 .given (c .before .before .before .args .at))
-
-shared-slice-read-result-2 : tie.Need-shared-slice-read-result-2
-shared-slice-read-result-2 c = search needs
-
-cast-result-2 : tie.Need-cast-result-2
-cast-result-2 c = omega (arith, c .shared-slice-known3 .given (c .before .before .before .before .args .at + 1))
-
-add-result : tie.Need-add-result
-add-result c =
-    omega (
-      arith,
-      c .shared-slice-known3 .given (c .before .before .before .before .args .at),
-      c .shared-slice-known3 .given (c .before .before .before .before .args .at + 1),
-    )
+two-requires : tie.Need-two-requires
+two-requires c κs = search needs
 
 byte-at-requires : tie.Need-byte-at-requires
 byte-at-requires c κs = search needs
 
-cast-result-3 : tie.Need-cast-result-3
-cast-result-3 c = search needs
-
-mul-result-2 : tie.Need-mul-result-2
-mul-result-2 c = search needs
+two-requires-2 : tie.Need-two-requires-2
+two-requires-2 c κs = search needs
 
 returns : tie.Need-returns
 returns c = search needs
 
 returns-2 : tie.Need-returns-2
 returns-2 c =
-    omega (
-      arith,
-      c .byte-at .ensures,
-      byte-past (c .before .before .before .args .image .now) (c .before .before .before .args .at + 1) (c .before .if1 .left),
-    )
+    let a = c .before .before .before .before .args in
+    two-past (a .image .now) (a .at) _ _ (c .before .before .if1 .left) (c .before .byte-at .ensures) (c .two2 .ensures)
 
 pub two-at-spec : {M : Type 1} → statement M
 two-at-spec =
     tie.close
     (tie.spec
     add-next
-    shared-slice-read-result
-    cast-result
-    mul-result
-    shared-slice-read-result-2
-    cast-result-2
-    add-result
+    shared-slice-read-two
+    shared-slice-read-two-2
+    two-requires
     byte-at-requires
-    cast-result-3
-    mul-result-2
+    two-requires-2
     returns
     returns-2)

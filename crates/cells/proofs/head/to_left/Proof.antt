@@ -1,4 +1,4 @@
--- `cells::head::to_left` meets its contract: the code 0 leads to cell 0.
+-- `cells::head::to_left` meets its contract: its move code leads to cell 0.
 use mathlib.Core.Path.{refl, _∙_}
 use lib.Dec.{lit<}
 use mir.Syntax.{int, w8}
@@ -10,6 +10,7 @@ use types.Run.{lit}
 use denote.Ref.{now}
 use denote.Triple.Spec.{tripleOf}
 use denote.Triple.Table.{entered, cited}
+use Rattle.table.specs.Form.{toLeft}
 use Rattle.cells.proofs.Cells.{moves-left}
 use Rattle.cells.proofs.Heads.{By}
 use Rattle.cells.proofs.Marks.{to-mark}
@@ -25,6 +26,6 @@ unfolding code.routine tablesOf
 to-left-spec 𝓤 H 𝓜 𝓖 𝓡 =
     let 𝓣 = tablesOf 𝓤 H 𝓜 (tables 𝓤 H 𝓜 𝓡 code.env) in
     entered 𝓤 H (tripleOf 𝓤 H (𝓖 .A) to-left.signature (to-left.spec 𝓤 H (𝓖 .A) (𝓜 .mem) (𝓡 .run))) (𝓣 .C) (𝓣 .Λ) #to-left code.function (code.unfolded 𝓤 H 𝓜 𝓡)
-    (to-mark 𝓤 H (𝓖 .A) (givenOf 𝓤 H 𝓜 𝓖) (𝓜 .mem) (𝓡 .run) (int w8 0) 0 (lit< tt) (λ Γ E. lit ! tt) (to-left.clauses 𝓤 H (𝓖 .A) (𝓜 .mem) (𝓡 .run))
-    (λ κs d g r e. factI 𝓤 _ (emp 𝓤) (e .0, e .1 ∙ moves-left (now (d .word)) 0 (d .cell) refl)) 𝓣
+    (to-mark 𝓤 H (𝓖 .A) (givenOf 𝓤 H 𝓜 𝓖) (𝓜 .mem) (𝓡 .run) (int w8 toLeft) toLeft (lit< tt) (λ Γ E. lit ! tt) (to-left.clauses 𝓤 H (𝓖 .A) (𝓜 .mem) (𝓡 .run))
+    (λ κs d g r e. factI 𝓤 _ (emp 𝓤) (e .0, e .1 ∙ moves-left (now (d .word)) toLeft (d .cell) refl)) 𝓣
     (cited 𝓤 H (By 𝓤 H (𝓖 .A) (𝓜 .mem) (𝓡 .run)) 𝓜 𝓡 code.env by-def.name by-def.routine code.calls-cells·head·by (by-thm.met 𝓤 H 𝓜 𝓖 𝓡)))

@@ -20,7 +20,7 @@ byte-at-requires : tie.Need-byte-at-requires
 byte-at-requires c κs = search needs
 
 returns-2 : tie.Need-returns-2
-returns-2 c = tells-no refl (λ h. c .if2 .taken (c .before .byte-at .ensures ∙ h .edition))
+returns-2 c = tells-no refl (λ h. c .if2 .taken (c .before .byte-at .ensures ∙ h .named))
 
 field-at-requires-2 : tie.Need-field-at-requires-2
 field-at-requires-2 c κs = search needs
@@ -34,7 +34,7 @@ returns-4 c =
     record {
       holds = λ e. record {
         first = kept (c .before .before .before .before .before .before .field-at .ensures) (c .before .before .before .before .before .if1 .left);
-        edition = sym (c .before .before .before .before .byte-at .ensures) ∙ c .before .before .before .if2 .left;
+        named = sym (c .before .before .before .before .byte-at .ensures) ∙ c .before .before .before .if2 .left;
         second = kept (rw letters at (c .before .before .field-at2 .ensures)) (c .before .if3 .left);
         someLetter = omega (arith, letters, c .if4 .taken);
         fewLetters = omega (arith, letters, leb-true);

@@ -3,7 +3,7 @@ use Rattle.table.proofs.Telling.{refuted, kept, tells-as, tells-no}
 use native.Mathlib.Omega.{arith}
 use Rattle.table.specs.Fields.{tableOf}
 use Rattle.table.proofs.Encoded.{image-head, image-middle, image-tail}
-use Rattle.checker.proofs.Decided.{parts-image, image-letters, image-others, image-rows}
+use Rattle.checker.proofs.Decided.{rows-behind, parts-image, image-letters, image-others, image-rows}
 use borrow.Author.Needs.{needs}
 use Rattle.checker.proofs.form.well_formed.Statement.{statement}
 use Rattle.checker.proofs.form.well_formed.Tie as tie
@@ -36,7 +36,7 @@ no-other-bit-requires : tie.Need-no-other-bit-requires
 no-other-bit-requires c κs = search needs
 
 rows-right-requires : tie.Need-rows-right-requires
-rows-right-requires c κs = omega (arith, kept (c .before .before .before .before .before .tail-right .ensures) (c .before .before .before .before .if3 .left) .end)
+rows-right-requires c κs = omega (arith, rows-behind (c .before .before .before .before .before .before .before .before .before .before .before .args .image .now) (kept (c .before .before .before .before .before .tail-right .ensures) (c .before .before .before .before .if3 .left)))
 
 returns-5 : tie.Need-returns-5
 returns-5 c =

@@ -1,6 +1,7 @@
 -- The sign says how the counter changes. Assumes nothing.
 use Prim.Native.Nat.{ℕ, _+_, _-_}
 use native.Mathlib.Omega.{arith}
+use Rattle.table.specs.Form.{noMove, noChange}
 use Rattle.compiler.proofs.Stepping.{
   step-room,
   step-emitted,
@@ -52,7 +53,7 @@ step-requires-3 : tie.Need-step-requires-3
 step-requires-3 c κs =
     let d = c .before .before .before .before .before .before .before .before .pre .doing in
     let n = up-counted (c .before .before .before .before .before .see .ensures) d (c .before .before .before .enum-told3 .given .1) (c .before .before .see2 .ensures) in
-    step-room d (stepping-by (λ _. 64) (λ (v : ℕ). 31 + v) _ n (c .before .number .ensures))
+    step-room d (stepping-by (λ _. noMove) (λ (v : ℕ). noChange + v) _ n (c .before .number .ensures))
 
 see-requires-3 : tie.Need-see-requires-3
 see-requires-3 c κs = search needs
@@ -69,7 +70,7 @@ step-requires-4 : tie.Need-step-requires-4
 step-requires-4 c κs =
     let d = c .before .before .before .before .before .before .before .pre .doing in
     let n = down-counted (c .before .before .before .before .see .ensures) d (c .before .before .before .match .keys4) (c .before .before .see3 .ensures) in
-    step-room d (stepping-by (λ _. 64) (λ (v : ℕ). 31 - v) _ n (c .before .number2 .ensures))
+    step-room d (stepping-by (λ _. noMove) (λ (v : ℕ). noChange - v) _ n (c .before .number2 .ensures))
 
 same-length : tie.Need-same-length
 same-length c = search needs
@@ -114,8 +115,8 @@ returns-3 c =
     let d₀ = c .before .before .before .before .before .before .before .before .before .before .before .pre .doing in
     let n₀ = up-counted sees d₀ is more in
     record {
-      emits = λ d. step-emitted d (stepping-by (λ _. 64) (λ (v : ℕ). 31 + v) _ (up-counted sees d is more) value) steps;
-      onward = step-onward d₀ (stepping-by (λ _. 64) (λ (v : ℕ). 31 + v) _ n₀ value) steps (n₀ .onward);
+      emits = λ d. step-emitted d (stepping-by (λ _. noMove) (λ (v : ℕ). noChange + v) _ (up-counted sees d is more) value) steps;
+      onward = step-onward d₀ (stepping-by (λ _. noMove) (λ (v : ℕ). noChange + v) _ n₀ value) steps (n₀ .onward);
     }
 
 same-length-4 : tie.Need-same-length-4
@@ -131,8 +132,8 @@ returns-4 c =
     let d₀ = c .before .before .before .before .before .before .before .before .before .before .pre .doing in
     let n₀ = down-counted sees d₀ other more in
     record {
-      emits = λ d. step-emitted d (stepping-by (λ _. 64) (λ (v : ℕ). 31 - v) _ (down-counted sees d other more) value) steps;
-      onward = step-onward d₀ (stepping-by (λ _. 64) (λ (v : ℕ). 31 - v) _ n₀ value) steps (n₀ .onward);
+      emits = λ d. step-emitted d (stepping-by (λ _. noMove) (λ (v : ℕ). noChange - v) _ (down-counted sees d other more) value) steps;
+      onward = step-onward d₀ (stepping-by (λ _. noMove) (λ (v : ℕ). noChange - v) _ n₀ value) steps (n₀ .onward);
     }
 
 pub change-spec : {M : Type 1} → statement M

@@ -1,6 +1,7 @@
 -- The sign behind the parenthesis says whether it goes back. Assumes nothing.
 use Prim.Native.Nat.{ℕ, _+_, _-_}
 use native.Mathlib.Omega.{arith}
+use Rattle.table.specs.Form.{noMove, noChange}
 use Rattle.compiler.proofs.Stepping.{step-room, step-emitted, step-onward, stepping-by, back-counted, forward-counted}
 use borrow.Author.Needs.{needs}
 use Rattle.compiler.proofs.plain.emit_move.Statement.{statement}
@@ -30,7 +31,7 @@ step-requires : tie.Need-step-requires
 step-requires c κs =
     let d = c .before .before .before .before .before .before .before .before .before .pre .doing in
     let n = back-counted (c .before .before .before .before .before .before .past .ensures) (c .before .before .before .before .before .see .ensures) d (c .before .before .before .enum-told .given .1) (c .before .before .see2 .ensures) in
-    step-room d (stepping-by (λ (v : ℕ). 64 - v) (λ _. 31) _ n (c .before .number .ensures))
+    step-room d (stepping-by (λ (v : ℕ). noMove - v) (λ _. noChange) _ n (c .before .number .ensures))
 
 number-requires-2 : tie.Need-number-requires-2
 number-requires-2 c κs = forward-counted (c .before .before .past .ensures) (c .before .see .ensures) (c .before .before .before .before .before .pre .doing) (c .match .keys2) .digits
@@ -44,7 +45,7 @@ step-requires-2 : tie.Need-step-requires-2
 step-requires-2 c κs =
     let d = c .before .before .before .before .before .before .before .pre .doing in
     let n = forward-counted (c .before .before .before .before .past .ensures) (c .before .before .before .see .ensures) d (c .before .before .match .keys2) in
-    step-room d (stepping-by (λ (v : ℕ). 64 + v) (λ _. 31) _ n (c .before .number2 .ensures))
+    step-room d (stepping-by (λ (v : ℕ). noMove + v) (λ _. noChange) _ n (c .before .number2 .ensures))
 
 same-length : tie.Need-same-length
 same-length c = search needs
@@ -60,8 +61,8 @@ returns c =
     let d₀ = c .before .before .before .before .before .before .before .before .before .before .before .before .pre .doing in
     let n₀ = back-counted pass sees d₀ minus more in
     record {
-      emits = λ d. step-emitted d (stepping-by (λ (v : ℕ). 64 - v) (λ _. 31) _ (back-counted pass sees d minus more) value) steps;
-      onward = step-onward d₀ (stepping-by (λ (v : ℕ). 64 - v) (λ _. 31) _ n₀ value) steps (n₀ .onward);
+      emits = λ d. step-emitted d (stepping-by (λ (v : ℕ). noMove - v) (λ _. noChange) _ (back-counted pass sees d minus more) value) steps;
+      onward = step-onward d₀ (stepping-by (λ (v : ℕ). noMove - v) (λ _. noChange) _ n₀ value) steps (n₀ .onward);
     }
 
 same-length-2 : tie.Need-same-length-2
@@ -77,8 +78,8 @@ returns-2 c =
     let d₀ = c .before .before .before .before .before .before .before .before .before .before .pre .doing in
     let n₀ = forward-counted pass sees d₀ other in
     record {
-      emits = λ d. step-emitted d (stepping-by (λ (v : ℕ). 64 + v) (λ _. 31) _ (forward-counted pass sees d other) value) steps;
-      onward = step-onward d₀ (stepping-by (λ (v : ℕ). 64 + v) (λ _. 31) _ n₀ value) steps (n₀ .onward);
+      emits = λ d. step-emitted d (stepping-by (λ (v : ℕ). noMove + v) (λ _. noChange) _ (forward-counted pass sees d other) value) steps;
+      onward = step-onward d₀ (stepping-by (λ (v : ℕ). noMove + v) (λ _. noChange) _ n₀ value) steps (n₀ .onward);
     }
 
 pub emit-move-spec : {M : Type 1} → statement M

@@ -4,6 +4,7 @@ use native.Mathlib.Omega.{arith}
 use mathlib.Core.Path.{_≡_, refl}
 use lib.ListN.{length, length-set}
 use borrow.Author.Needs.{needs}
+use Rattle.table.specs.Form.{lettersPlace}
 use Rattle.compiler.proofs.Setting.{ListsSoFar, so-far-none, so-far-room, so-far-more, so-far-all}
 use Rattle.compiler.proofs.settings.letters.Statement.{statement}
 use Rattle.compiler.proofs.settings.letters.Tie as tie
@@ -22,7 +23,7 @@ see-requires : tie.Need-see-requires Inv-loop μ-loop
 see-requires c κs = search needs
 
 -- there is room for another letter
-room : (c : tie.After-see Inv-loop μ-loop) → (c .before .loop .count < 16) × (c .before .loop .count + 7 < length (c .before .loop .out))
+room : (c : tie.After-see Inv-loop μ-loop) → (c .before .loop .count < 16) × (c .before .loop .count + lettersPlace < length (c .before .loop .out))
 room c =
     let stand = c .before .before .before .before .pre .stand in
     so-far-room stand (c .before .loop .inv .1 .lists stand)

@@ -3,18 +3,19 @@ use native.Mathlib.Omega.{arith}
 use mathlib.Core.Path.{_≡_, refl}
 use lib.ListN.{length}
 use borrow.Author.Needs.{needs}
+use Rattle.table.specs.Form.{rowsPlace, acceptingPlace, acceptingBytes}
 use Rattle.compiler.proofs.Writing.{held-long, marks-bit}
 use Rattle.compiler.proofs.write.accept.Statement.{statement}
 use Rattle.compiler.proofs.write.accept.Tie as tie
 
 -- how many letters there are
-few : (c : tie.After-letters) → (c .letters .result ≤ 16) × (c .letters .result + 38 ≤ length (c .before .before .before .args .out .now))
+few : (c : tie.After-letters) → (c .letters .result ≤ 16) × (rowsPlace (c .letters .result) ≤ length (c .before .before .before .args .out .now))
 few c =
     let held = c .before .before .before .pre in
     let n = c .letters .ensures .counts (held .holds) in
     (omega (arith, held .holds .few), omega (arith, held-long (held .holds)))
 
-sixteen : (n : ℕ) → n + 19 + 16 - (n + 19) ≡ 16
+sixteen : (n : ℕ) → acceptingPlace n + acceptingBytes - acceptingPlace n ≡ acceptingBytes
 sixteen n = omega arith
 
 letters-requires : tie.Need-letters-requires

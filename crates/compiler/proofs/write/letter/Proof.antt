@@ -2,12 +2,13 @@ use Prim.Native.Nat.{_+_, _-_, _≤_}
 use native.Mathlib.Omega.{arith}
 use lib.ListN.{length}
 use borrow.Author.Needs.{needs}
+use Rattle.table.specs.Form.{rowsPlace}
 use Rattle.compiler.proofs.Writing.{held-long, held-index, index-back}
 use Rattle.compiler.proofs.write.letter.Statement.{statement}
 use Rattle.compiler.proofs.write.letter.Tie as tie
 
 -- how many letters there are
-few : (c : tie.After-letters) → (c .letters .result ≤ 16) × (c .letters .result + 38 ≤ length (c .before .before .args .out .now))
+few : (c : tie.After-letters) → (c .letters .result ≤ 16) × (rowsPlace (c .letters .result) ≤ length (c .before .before .args .out .now))
 few c =
     let held = c .before .before .pre in
     let n = c .letters .ensures .counts (held .holds) in

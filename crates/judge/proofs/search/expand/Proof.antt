@@ -1,33 +1,34 @@
--- `judge::search::expand` meets its contract. The loop's invariant: the rows below `r` are followed.
+-- `judge::search::expand` meets its contract. The loop's invariant: the rows before row `j` of those that are shown are followed, and row `j`
+-- stands at `at`.
 use borrow.Author.Needs.{needs}
 use Prim.Native.Nat.{_≤_, _-_}
 use native.Mathlib.Omega.{arith}
-use mathlib.Core.Path.{sym, _∙_}
+use mathlib.Core.Path.{_≡_, refl, sym, _∙_}
+use Rattle.table.specs.Fields.{tableOf}
+use Rattle.table.specs.Source.{placeIn}
+use Rattle.table.proofs.Showing.{range-first}
 use Rattle.judge.specs.Search.{Followed, Searching, Keeps}
-use Rattle.judge.proofs.Following.{same-keeps, expand-begins, expand-followed, expand-ends}
+use Rattle.judge.specs.Inner.{Shown}
+use Rattle.judge.proofs.Following.{same-keeps, place-again, expand-shows, expand-inside, expand-begins, expand-followed, expand-ends}
 use Rattle.judge.proofs.search.expand.Statement.{statement}
 use Rattle.judge.proofs.search.expand.Tie as tie
 
 abbrev Inv-loop : tie.InvT-loop
-Inv-loop image word limit i over marks₀ hints₀ rows first seen past₀ r₀ marks hints past r = (r ≤ rows) × Searching image word limit marks past i r × Followed marks i × Keeps marks₀ marks
+Inv-loop image rows word limit i over marks₀ hints₀ range many apart symbol at₀ past₀ j₀ marks hints at past j =
+    (j ≤ many) × Searching (tableOf image) word limit marks past i (Shown rows range j) × Followed marks i × Keeps marks₀ marks × (at ≡ placeIn range j)
 
 abbrev μ-loop : tie.MeasureT-loop
-μ-loop image word limit i over marks₀ hints₀ rows first seen past₀ r₀ marks hints past r = rows - r
+μ-loop image rows word limit i over marks₀ hints₀ range many apart symbol at₀ past₀ j₀ marks hints at past j =
+    many - j
 
 add-clear-bit : tie.Need-add-clear-bit Inv-loop μ-loop
-add-clear-bit c = omega (arith, c .before .before .before .before .pre .low)
+add-clear-bit c = omega (arith, c .before .before .before .before .before .pre .low)
 
 clear-bit-requires : tie.Need-clear-bit-requires Inv-loop μ-loop
 clear-bit-requires c κs = search needs
 
-row-count-requires : tie.Need-row-count-requires Inv-loop μ-loop
-row-count-requires c κs = search needs
-
-letter-count-requires : tie.Need-letter-count-requires Inv-loop μ-loop
-letter-count-requires c κs = search needs
-
-add-first : tie.Need-add-first Inv-loop μ-loop
-add-first c = omega (arith, c .letter-count .ensures, c .before .before .before .before .before .before .before .before .before .pre .between .ready .long)
+rows-of-requires : tie.Need-rows-of-requires Inv-loop μ-loop
+rows-of-requires c κs = search needs
 
 seen-requires : tie.Need-seen-requires Inv-loop μ-loop
 seen-requires c κs = search needs
@@ -35,38 +36,33 @@ seen-requires c κs = search needs
 loop-holds : tie.Need-loop-holds Inv-loop μ-loop
 loop-holds c =
     let w = c .before .before .before .before .before .before .before .before .before .before .pre in
-    let e = c .before .before .before .before .before .clear-bit .ensures in
-    (omega arith, expand-begins w e, expand-followed w e, same-keeps)
-
-mul-visit : tie.Need-mul-visit Inv-loop μ-loop
-mul-visit c = omega (arith, c .before .before .before .before .before .before .before .before .before .before .before .before .pre .between .ready .long, c .loop-test .taken, c .before .before .before .before .row-count .ensures)
-
-add-visit : tie.Need-add-visit Inv-loop μ-loop
-add-visit c =
-    omega (
-      arith,
-      c .before .before .before .before .before .before .before .before .before .before .before .before .pre .between .ready .long,
-      c .loop-test .taken,
-      c .before .before .before .before .row-count .ensures,
-      c .before .before .before .letter-count .ensures,
-    )
+    let e = c .before .before .before .before .clear-bit .ensures in
+    let a = c .before .rows-of .ensures in
+    (omega arith, expand-begins w e a, expand-followed w e a, same-keeps, sym (range-first _))
 
 visit-requires : tie.Need-visit-requires Inv-loop μ-loop
 visit-requires c κs =
     let l = c .before .before .before .loop .inv in
+    let w = c .before .before .before .before .before .before .before .before .before .before .before .before .before .before .pre in
     record {
       row = record {
-        at = l .1;
-        low = c .before .before .before .before .before .before .before .before .before .before .before .before .before .before .pre .low;
+        search = l .1;
+        low = w .low;
         followed = l .2;
-        few = omega (arith, c .before .before .loop-test .taken, c .before .before .before .before .before .before .row-count .ensures);
+        shows = expand-shows w (c .before .before .before .before .before .before .before .before .clear-bit .ensures) (c .before .before .before .before .before .rows-of .ensures);
+        few = c .before .before .loop-test .taken;
+        place = l .4;
       };
-      place = omega (arith, c .before .before .before .before .before .letter-count .ensures);
       sees = c .before .before .before .before .seen .ensures;
     }
 
-add-r : tie.Need-add-r Inv-loop μ-loop
-add-r c = omega arith
+add-at : tie.Need-add-at Inv-loop μ-loop
+add-at c =
+    let l = c .before .before .before .before .before .before .loop .inv in
+    omega (arith, expand-inside (c .before .before .before .before .before .before .before .before .before .before .before .before .before .before .before .before .before .pre) (c .before .before .before .before .before .before .before .before .before .before .before .clear-bit .ensures) (c .before .before .before .before .before .before .before .before .rows-of .ensures) _ (l .4) (c .before .before .before .before .before .loop-test .taken), c .before .before .before .before .before .before .before .before .before .before .before .before .before .before .before .before .before .good .1 .0 .0)
+
+add-j : tie.Need-add-j Inv-loop μ-loop
+add-j c = omega arith
 
 loop-less : tie.Need-loop-less Inv-loop μ-loop
 loop-less c = omega arith
@@ -76,7 +72,7 @@ loop-again c =
     let f = c .before .before .visit .ensures in
     let l = c .before .before .before .before .before .before .loop .inv in
     let low = c .before .before .before .before .before .before .before .before .before .before .before .before .before .before .before .before .before .pre .low in
-    (omega arith, f .at, f .keeps _ low (l .2), λ j lowj was. f .keeps j lowj (l .3 j lowj was))
+    (omega arith, f .search, f .keeps _ low (l .2), λ k lowk was. f .keeps k lowk (l .3 k lowk was), place-again _ _ (l .4) refl)
 
 same-length : tie.Need-same-length Inv-loop μ-loop
 same-length c = c .before .loop .inv .1 .room ∙ sym (c .before .before .before .before .before .before .before .before .before .before .before .before .pre .between .room)
@@ -84,8 +80,7 @@ same-length c = c .before .loop .inv .1 .room ∙ sym (c .before .before .before
 returns : tie.Need-returns Inv-loop μ-loop
 returns c =
     let l = c .before .loop .inv in
-    expand-ends (c .before .before .before .before .before .before .before .before .before .before .before .before .pre) (c .before .before .before .before .before .before .before .clear-bit .ensures) _
-    (omega (arith, c .before .before .before .before .row-count .ensures)) (l .1) (l .2) (l .3)
+    expand-ends (c .before .before .before .before .before .before .before .before .before .before .before .before .pre) (c .before .before .before .before .before .before .clear-bit .ensures) (c .before .before .before .rows-of .ensures) _ (c .loop-test .left) (l .1) (l .2) (l .3)
 
 pub expand-spec : {M : Type 1} → statement M
 expand-spec =
@@ -95,15 +90,12 @@ expand-spec =
     μ-loop
     add-clear-bit
     clear-bit-requires
-    row-count-requires
-    letter-count-requires
-    add-first
+    rows-of-requires
     seen-requires
     loop-holds
-    mul-visit
-    add-visit
     visit-requires
-    add-r
+    add-at
+    add-j
     loop-less
     loop-again
     same-length

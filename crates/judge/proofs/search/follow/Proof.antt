@@ -1,20 +1,23 @@
--- `judge::search::follow` meets its contract: each outcome of the row's step does to the search what its law says.
-use borrow.Author.Needs.{needs}
+-- `judge::search::follow` meets its contract: a row that does not fit does nothing, and each outcome of its step does to the search what its
+-- law says.
 use Prim.Native.Nat.{_+_, _*_, _<_}
-use Rattle.judge.specs.Search.{situations}
 use native.Mathlib.Omega.{arith}
-use Rattle.judge.proofs.Following.{followed-other, followed-blocked, followed-above, goes-below, followed-goes}
+use mathlib.Core.Path.{sym, _∙_}
+use borrow.Author.Tests.{not-true}
+use Rattle.judge.specs.Search.{situations}
+use Rattle.judge.proofs.Following.{followed-unfit, followed-blocked, followed-above, goes-below, followed-goes}
+use borrow.Author.Needs.{needs}
 use Rattle.judge.proofs.search.follow.Statement.{statement}
 use Rattle.judge.proofs.search.follow.Tie as tie
 
-row-from-requires : tie.Need-row-from-requires
-row-from-requires c κs = search needs
+row-here-requires : tie.Need-row-here-requires
+row-here-requires c κs = search needs
+
+suits-requires : tie.Need-suits-requires
+suits-requires c κs = search needs
 
 returns : tie.Need-returns
-returns c = followed-other (c .before .before .before .before .before .pre) _ (c .before .row-from .ensures) (c .if1 .taken)
-
-row-at-requires : tie.Need-row-at-requires
-row-at-requires c κs = search needs
+returns c = followed-unfit (c .before .before .before .before .before .before .before .pre) _ (c .before .before .row-here .ensures) (sym (c .before .suits .ensures) ∙ not-true _ (c .if1 .taken))
 
 step-requires : tie.Need-step-requires
 step-requires c κs = search needs
@@ -25,11 +28,10 @@ enum-known-outcome c = search needs
 -- the mark that is set is a situation's
 below
     : (c : tie.After-known-told)
-    → (c .before .before .before .before .row-at .result .to * 64 + c .before .outcome .given .0 .0) * 32 + c .before .outcome .given .0 .1 .0 < situations
+    → (c .before .before .before .before .before .before .row-here .result .to * 64 + c .before .outcome .given .0 .0) * 32 + c .before .outcome .given .0 .1 .0 < situations
 below c =
-    let a = c .before .before .before .before .before in
-    goes-below (a .before .before .before .before .before .pre) _ (a .before .row-from .ensures) (a .if1 .left) _ (c .before .before .before .before .row-at .ensures) _
-    (c .before .before .before .step .ensures) _ _ (c .before .outcome .given .1)
+    let a = c .before .before .before .before in
+    goes-below (a .before .before .before .before .before .before .before .pre) _ (a .before .before .row-here .ensures) _ (c .before .before .before .step .ensures) _ _ (c .before .outcome .given .1)
 
 mul-mark : tie.Need-mul-mark
 mul-mark c = omega (arith, below c)
@@ -57,30 +59,26 @@ same-length c = search needs
 
 returns-2 : tie.Need-returns-2
 returns-2 c =
-    let b = c .before .before .before .before .before .before in
-    let a = b .before .before .before .before in
-    followed-goes (a .before .before .before .before .before .pre) _ (a .before .row-from .ensures) (a .if1 .left) _ (b .before .before .before .row-at .ensures) _
-    (b .before .before .step .ensures) _ _ (b .outcome .given .1) _ (c .before .before .mark .ensures)
+    let a = c .before .before .before .before .before .before .before .before .before in
+    followed-goes (a .before .before .before .before .before .before .before .pre) _ (a .before .before .row-here .ensures) _ (c .before .before .before .before .before .before .before .before .step .ensures) _ _ (c .before .before .before .before .before .before .outcome .given .1) _ (c .before .before .mark .ensures)
 
 returns-3 : tie.Need-returns-3
 returns-3 c =
-    let a = c .before .before .before .before in
-    followed-blocked (a .before .before .before .before .before .pre) _ (a .before .row-from .ensures) (a .if1 .left) _ (c .before .before .before .row-at .ensures) _
-    (c .before .before .step .ensures) (c .enum-told .given .1)
+    let a = c .before .before .before in
+    followed-blocked (a .before .before .before .before .before .before .before .pre) _ (a .before .before .row-here .ensures) _ (c .before .before .step .ensures) (c .enum-told .given .1)
 
 returns-4 : tie.Need-returns-4
 returns-4 c =
-    let a = c .before .before .before .before in
-    followed-above (a .before .before .before .before .before .pre) _ (a .before .row-from .ensures) (a .if1 .left) _ (c .before .before .before .row-at .ensures) _
-    (c .before .before .step .ensures) (c .enum-told2 .given .1)
+    let a = c .before .before .before in
+    followed-above (a .before .before .before .before .before .before .before .pre) _ (a .before .before .row-here .ensures) _ (c .before .before .step .ensures) (c .enum-told2 .given .1)
 
 pub follow-spec : {M : Type 1} → statement M
 follow-spec =
     tie.close
     (tie.spec
-    row-from-requires
+    row-here-requires
+    suits-requires
     returns
-    row-at-requires
     step-requires
     enum-known-outcome
     mul-mark

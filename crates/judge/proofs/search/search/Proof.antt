@@ -1,6 +1,7 @@
 -- `judge::search::search` meets its contract. The loop's invariant: the search is between two situations; the measure: how many are left.
 use native.Mathlib.Omega.{arith}
 use mathlib.Core.Path.{sym, _∙_}
+use Rattle.table.specs.Fields.{tableOf}
 use Rattle.judge.specs.Search.{Between}
 use Rattle.judge.proofs.Left.{left}
 use Rattle.judge.proofs.Picking.{begins-between, picked-waiting, picked-none, expand-falls}
@@ -8,34 +9,36 @@ use Rattle.judge.proofs.search.search.Statement.{statement}
 use Rattle.judge.proofs.search.search.Tie as tie
 
 abbrev Inv-loop : tie.InvT-loop
-Inv-loop image word limit marks₀ hints₀ over₀ marks hints over = Between image word limit marks over
+Inv-loop image rows source word limit marks₀ hints₀ over₀ marks hints over =
+    Between (tableOf image) word limit marks over
 
 abbrev μ-loop : tie.MeasureT-loop
-μ-loop image word limit marks₀ hints₀ over₀ marks hints over = left marks
+μ-loop image rows source word limit marks₀ hints₀ over₀ marks hints over =
+    left marks
 
 mark-requires : tie.Need-mark-requires Inv-loop μ-loop
 mark-requires c κs = omega arith
 
 loop-holds : tie.Need-loop-holds Inv-loop μ-loop
-loop-holds c = begins-between (c .before .before .before .before .before .before .before .before .pre) (c .before .before .mark .ensures)
+loop-holds c = begins-between (c .before .before .before .before .before .before .before .before .before .pre) (c .before .before .mark .ensures)
 
 pick-requires : tie.Need-pick-requires Inv-loop μ-loop
 pick-requires c κs = c .before .before .loop .inv .room
 
 same-length : tie.Need-same-length Inv-loop μ-loop
-same-length c = c .before .before .before .before .loop .inv .room ∙ sym (c .before .before .before .before .before .before .before .before .before .before .before .before .before .pre .room)
+same-length c = c .before .before .before .before .loop .inv .room ∙ sym (c .before .before .before .before .before .before .before .before .before .before .before .before .before .before .pre .room)
 
 returns : tie.Need-returns Inv-loop μ-loop
 returns c = picked-none (c .before .before .before .before .loop .inv) (c .before .pick .ensures) (c .if1 .taken)
 
 expand-requires : tie.Need-expand-requires Inv-loop μ-loop
 expand-requires c κs =
-    picked-waiting (c .before .before .before .before .before .before .loop .inv) (c .before .before .before .pick .ensures) (c .before .before .if1 .left)
+    picked-waiting (c .before .before .before .before .before .before .before .before .before .before .before .before .before .before .before .before .pre .sources) (c .before .before .before .before .before .before .loop .inv) (c .before .before .before .pick .ensures) (c .before .before .if1 .left)
 
 loop-less : tie.Need-loop-less Inv-loop μ-loop
 loop-less c =
     let a = c .before .before .before .before .before in
-    expand-falls (picked-waiting (a .before .before .before .before .loop .inv) (a .before .pick .ensures) (a .if1 .left)) (c .before .before .expand .ensures)
+    expand-falls (picked-waiting (a .before .before .before .before .before .before .before .before .before .before .before .before .before .before .pre .sources) (a .before .before .before .before .loop .inv) (a .before .pick .ensures) (a .if1 .left)) (c .before .before .expand .ensures)
 
 loop-again : tie.Need-loop-again Inv-loop μ-loop
 loop-again c = c .before .before .expand .ensures .between

@@ -1,15 +1,15 @@
--- `judge::search::visit` meets its contract: a row that does not fit does nothing.
+-- `judge::search::visit` meets its contract: a row out of another state does nothing.
 use mathlib.Core.Path.{sym, _∙_}
-use Rattle.judge.proofs.Following.{followed-unsuited}
+use Rattle.judge.proofs.Following.{followed-other, followed-here}
 use borrow.Author.Needs.{needs}
 use Rattle.judge.proofs.search.visit.Statement.{statement}
 use Rattle.judge.proofs.search.visit.Tie as tie
 
-suits-requires : tie.Need-suits-requires
-suits-requires c κs = search needs
+leaves-requires : tie.Need-leaves-requires
+leaves-requires c κs = search needs
 
 follow-requires : tie.Need-follow-requires
-follow-requires c κs = search needs
+follow-requires c κs = followed-here (c .before .before .before .before .before .before .before .before .pre) (sym (c .before .before .before .leaves .ensures) ∙ c .before .before .if1 .taken)
 
 same-length : tie.Need-same-length
 same-length c = search needs
@@ -18,7 +18,7 @@ returns : tie.Need-returns
 returns c = search needs
 
 returns-2 : tie.Need-returns-2
-returns-2 c = let here = c .before .before .before .before .before .pre in followed-unsuited (here .row) here (sym (c .before .suits .ensures) ∙ c .if1 .left)
+returns-2 c = followed-other (c .before .before .before .before .before .before .pre .row) (sym (c .before .leaves .ensures) ∙ c .if1 .left)
 
 pub visit-spec : {M : Type 1} → statement M
-visit-spec = tie.close (tie.spec suits-requires follow-requires same-length returns returns-2)
+visit-spec = tie.close (tie.spec leaves-requires follow-requires same-length returns returns-2)

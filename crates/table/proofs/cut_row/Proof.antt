@@ -1,8 +1,9 @@
--- The eight bytes of a row. Assumes nothing.
-use Rattle.table.proofs.Reading.{row-is}
+-- The eight bytes of a row; past the end it is all 0. Assumes nothing.
+use mathlib.Core.Path.{sym}
+use Rattle.table.proofs.Reading.{row-is, here-past}
 use borrow.Author.Needs.{needs}
-use Rattle.table.proofs.row_here.Statement.{statement}
-use Rattle.table.proofs.row_here.Tie as tie
+use Rattle.table.proofs.cut_row.Statement.{statement}
+use Rattle.table.proofs.cut_row.Tie as tie
 
 two-at-requires : tie.Need-two-at-requires
 two-at-requires c κs = search needs
@@ -50,8 +51,11 @@ returns c =
     (c .before .byte-at4 .ensures)
     (c .two-at2 .ensures)
 
-pub row-here-spec : {M : Type 1} → statement M
-row-here-spec =
+returns-2 : tie.Need-returns-2
+returns-2 c = sym (here-past _ _ (c .if1 .left))
+
+pub cut-row-spec : {M : Type 1} → statement M
+cut-row-spec =
     tie.close
     (tie.spec
     two-at-requires
@@ -65,4 +69,5 @@ row-here-spec =
     byte-at-requires-4
     add-two-at
     two-at-requires-2
-    returns)
+    returns
+    returns-2)
