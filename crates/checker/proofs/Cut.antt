@@ -9,7 +9,8 @@ use lib.Seq.{drop-cons, drop-drop, take-at, length-take-le}
 use Rattle.bits.specs.Bit.{Bytes}
 use Rattle.table.specs.Form.{Width, eight, wide}
 use Rattle.table.specs.Image.{twoBytes, field, rowBytes, rowsBytes}
-use Rattle.table.specs.Fields.{byteAt, twoAt, widthOf, rowPlace, rowFrom, rowOf, rowsFrom, FieldAt}
+use Rattle.table.specs.Fields.{byteAt, twoAt, widthOf, rowPlace, rowFrom, rowOf, rowsFrom}
+use Rattle.table.specs.Inside.Right.{FieldAt}
 use Rattle.table.proofs.RowList.{place-next, place-inside}
 
 -- m bytes, from the jth after a place on

@@ -13,7 +13,8 @@ use Rattle.bits.specs.Byte.{isLetter}
 use Rattle.table.specs.Form.{lettersPlace, eitherCounter, toRight, mostChange, acceptingPlace, acceptingBytes, rowsTag, rowsPlace}
 use Rattle.table.specs.Table.{Row, Table, Accepting}
 use Rattle.table.specs.WellFormed.{SymbolCode, RowInRange, InRange, IsImage}
-use Rattle.table.specs.Fields.{lettersOf, letterOf, rowOf, rowCount, tableOf, Tells, HeadRight, MiddleRight, TailRight, LetterRight}
+use Rattle.table.specs.Fields.{lettersOf, letterOf, rowOf, rowCount, tableOf}
+use Rattle.table.specs.Inside.Right.{Tells, HeadRight, MiddleRight, TailRight, LetterRight}
 use Rattle.table.specs.RowCode.{rowIs}
 use Rattle.table.specs.declared.Row as Code
 use Rattle.table.proofs.Telling.{tells-as}

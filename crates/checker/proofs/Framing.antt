@@ -24,7 +24,8 @@ use Rattle.table.specs.Form.{
   bytesOf,
 }
 use Rattle.table.specs.Image.{twoBytes, rowsBytes, flag, edition, encode}
-use Rattle.table.specs.Fields.{byteAt, twoAt, lettersOf, widthOf, rowPlace, rowCount, rowsFrom, tableOf, FieldAt, HeadRight, MiddleRight, TailRight}
+use Rattle.table.specs.Fields.{byteAt, twoAt, lettersOf, widthOf, rowPlace, rowCount, rowsFrom, tableOf}
+use Rattle.table.specs.Inside.Right.{FieldAt, HeadRight, MiddleRight, TailRight}
 use Rattle.table.proofs.Width.{bytes-of-high}
 use Rattle.table.proofs.Image.{rows-wide}
 use Rattle.table.proofs.RowList.{length-rowsFrom, place-first}

@@ -10,9 +10,9 @@ use borrow.Author.Tests.{ltb-true, ltb-false}
 use Rattle.bits.specs.Bit.{bit}
 use Rattle.table.proofs.Telling.{tells-no}
 use Rattle.table.specs.Table.{Table, Accepting}
-use Rattle.table.specs.Fields.{Tells}
-use Rattle.judge.specs.Search.{situationOf, MarkedAccepts}
-use Rattle.judge.specs.Inner.{Quiet, FirstSet, AcceptsIn}
+use Rattle.table.specs.Inside.Right.{Tells}
+use Rattle.judge.specs.Inside.Search.{situationOf, MarkedAccepts}
+use Rattle.judge.specs.Inside.Inner.{Quiet, FirstSet, AcceptsIn}
 
 -- a bit in a byte that is 0 is not set
 quiet-bit : (m : List ℕ) (from to i : ℕ) → Quiet m from to → from * 8 ≤ i → i < to * 8 → ¬ (bit m i ≡ 1)

@@ -17,10 +17,10 @@ use borrow.Author.Count.{below-more}
 use borrow.Author.Tests.{eqb-true, eqb-false}
 use Rattle.bits.specs.Bit.{bit}
 use Rattle.bits.proofs.Bits.{bit-of-byte}
-use Rattle.table.specs.Fields.{Tells}
+use Rattle.table.specs.Inside.Right.{Tells}
 use Rattle.judgement.specs.Marks.{markBytes, firstHalf}
-use Rattle.judge.specs.Search.{situations}
-use Rattle.judge.specs.Inner.{Quiet, FirstSet, Guess, TryRight, Picked}
+use Rattle.judge.specs.Inside.Search.{situations}
+use Rattle.judge.specs.Inside.Inner.{Quiet, FirstSet, Guess, TryRight, Picked}
 use Rattle.judge.specs.declared.pending.Try.{Try}
 use Rattle.judge.specs.declared.pending.Try.the-variants.{Found}
 

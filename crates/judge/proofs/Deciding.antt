@@ -6,7 +6,7 @@ use Rattle.table.specs.Fields.{tableOf}
 use Rattle.table.specs.declared.source.Source.the-variants.{Image}
 use Rattle.table.proofs.Showing.{image-sources}
 use Rattle.judgement.specs.Judge.{Judgeable, judged, refused, answerNumber, Judges}
-use Rattle.judge.specs.Inner.{RefusedAs, Undecided, Decided}
+use Rattle.judge.specs.Inside.Inner.{RefusedAs, Undecided, Decided}
 
 module _ {image word : List ℕ} {limit : ℕ} {before after : List ℕ} where
   -- a refusal is a right answer, where the marks are as they were

@@ -13,7 +13,8 @@ use lib.ListN.{length}
 use Rattle.bits.specs.Bit.{bit, withoutBit}
 use Rattle.table.specs.Table.{Row, Table}
 use Rattle.table.specs.Fields.{rowFrom}
-use Rattle.table.specs.Source.{rangeOf, placeIn, rowIn, Shows}
+use Rattle.table.specs.Source.{rangeOf}
+use Rattle.table.specs.Inside.Showing.{placeIn, rowIn, Shows}
 use Rattle.table.specs.declared.source.Range.{Range}
 use Rattle.table.specs.declared.source.Source.{Source}
 use Rattle.table.proofs.Showing.{range-first, range-next}
@@ -23,8 +24,8 @@ use Rattle.machine.specs.Outcome.{stepFrom, stepTo, OutcomeRight, Steps}
 use Rattle.machine.specs.declared.Outcome.{Outcome}
 use Rattle.machine.specs.declared.Outcome.the-variants.{Goes, Blocked, OverLimit}
 use Rattle.judgement.specs.Marks.{HasMark, markOf}
-use Rattle.judge.specs.Search.{situations, situationOf, marked, Followed, Searching, Keeps}
-use Rattle.judge.specs.Inner.{Shown, RowOpen, RowHere, RowLeaves, RowFollowed, Waiting, Expanded}
+use Rattle.judge.specs.Inside.Search.{situations, situationOf, marked, Followed, Searching, Keeps}
+use Rattle.judge.specs.Inside.Inner.{Shown, RowOpen, RowHere, RowLeaves, RowFollowed, Waiting, Expanded}
 use Rattle.judgement.proofs.Marks.{mark-below}
 use Rattle.judge.proofs.Marking.{marked-followed}
 use Rattle.judge.proofs.Searching.{other-state, mark-for, row-blocked, row-above, row-within, rows-done, rows-begin, begun-followed, begun-keeps}

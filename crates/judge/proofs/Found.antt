@@ -13,14 +13,14 @@ use Rattle.ones.specs.Ones.{Ones}
 use Rattle.bits.proofs.Change.{bit-take-low, bit-zeros}
 use Rattle.bits.proofs.Size.{size-numbered}
 use Rattle.table.specs.Table.{Table, Accepting}
-use Rattle.table.specs.Fields.{Tells}
+use Rattle.table.specs.Inside.Right.{Tells}
 use Rattle.table.specs.declared.source.Source.{Source}
 use Rattle.machine.specs.Step.{Situation, Takes, Step}
 use Rattle.machine.specs.Run.{Reach, begins, goes, Accepts, Passes}
 use Rattle.judgement.specs.Verdict.{verdictNumber, IsVerdict}
 use Rattle.judgement.specs.Marks.{markBytes, firstHalf, HasMark, markOf, Marks}
-use Rattle.judge.specs.Search.{situations, situationOf, Searched, MarkedAccepts}
-use Rattle.judge.specs.Inner.{verdictOf, Unmarked, Undecided, Decided}
+use Rattle.judge.specs.Inside.Search.{situations, situationOf, Searched, MarkedAccepts}
+use Rattle.judge.specs.Inside.Inner.{verdictOf, Unmarked, Undecided, Decided}
 use Rattle.judgement.proofs.Marks.{reached-has-mark, mark-below, mark-of}
 use Rattle.judgement.proofs.Counted.{ones-reached}
 

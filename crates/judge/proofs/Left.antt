@@ -8,7 +8,7 @@ use mathlib.Core.Logic.{⊎-elim}
 use mathlib.Core.List.{List}
 use Rattle.bits.specs.Bit.{bit}
 use Rattle.bits.proofs.Bits.{bit-zero-or-one}
-use Rattle.judge.specs.Search.{situations, Followed, Keeps}
+use Rattle.judge.specs.Inside.Search.{situations, Followed, Keeps}
 
 -- the sum of a function over the numbers below n
 sum : (ℕ → ℕ) → ℕ → ℕ

@@ -10,7 +10,7 @@ use borrow.Author.Tests.{eq-eqb, ne-eqb}
 use Rattle.bits.specs.Bit.{bit, withBit}
 use Rattle.bits.proofs.Change.{bit-set, bit-set-other, bit-set-kept, length-withBit}
 use Rattle.judgement.specs.Marks.{markBytes}
-use Rattle.judge.specs.Search.{situations, marked, Followed}
+use Rattle.judge.specs.Inside.Search.{situations, marked, Followed}
 
 -- marking either changes nothing, where the bit was set, or sets both bits
 pub marked-same : (m : List ℕ) (i : ℕ) → bit m i ≡ 1 → marked m i ≡ m

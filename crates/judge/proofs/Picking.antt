@@ -5,10 +5,10 @@ use mathlib.Core.Path.{_≡_}
 use mathlib.Core.Bool.{Bool, false}
 use mathlib.Core.List.{List}
 use Rattle.table.specs.Table.{Table}
-use Rattle.table.specs.Source.{Sources}
+use Rattle.table.specs.Inside.Showing.{Sources}
 use Rattle.table.specs.declared.source.Source.{Source}
-use Rattle.judge.specs.Search.{situations, marked, Between, Searched}
-use Rattle.judge.specs.Inner.{Picked, Waiting, Expanded, Unmarked}
+use Rattle.judge.specs.Inside.Search.{situations, marked, Between, Searched}
+use Rattle.judge.specs.Inside.Inner.{Picked, Waiting, Expanded, Unmarked}
 use Rattle.judge.proofs.Searching.{search-begins}
 use Rattle.judge.proofs.Left.{left, left-falls}
 

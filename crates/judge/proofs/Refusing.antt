@@ -12,7 +12,7 @@ use Rattle.judgement.proofs.Reasons.{input-none}
 use Rattle.refusing.specs.declared.Asked.the-variants.{Admitted, Refused}
 use Rattle.refusing.specs.Asking.{Asks}
 use Rattle.refusing.proofs.Reasons.{asks-small}
-use Rattle.judge.specs.Inner.{RoomRefusing, Refusing}
+use Rattle.judge.specs.Inside.Inner.{RoomRefusing, Refusing}
 
 module _ (image w : List ℕ) (limit : ℕ) (m : List ℕ) where
   -- what is refused for its image, word or limit

@@ -15,7 +15,7 @@ use Rattle.machine.specs.Step.{Situation, rowFits, Takes, Step}
 use Rattle.machine.specs.Run.{Reach, begins, goes, Passes}
 use Rattle.machine.proofs.Steps.{takes-once, same-counter}
 use Rattle.judgement.specs.Marks.{markBytes, HasMark, markOf}
-use Rattle.judge.specs.Search.{situations, situationOf, marked, Followed, RowDone, Ready, Searching, Between, Keeps}
+use Rattle.judge.specs.Inside.Search.{situations, situationOf, marked, Followed, RowDone, Ready, Searching, Between, Keeps}
 use Rattle.judgement.proofs.Marks.{reached-has-mark, mark-below, mark-of}
 use Rattle.judge.proofs.Marking.{length-marked, marked-kept, marked-only, marked-only-pending, marked-set, marked-followed-before}
 

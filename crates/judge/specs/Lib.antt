@@ -1,3 +1,2 @@
 -- What the judge's functions promise one another. What they promise together is in crate judgement.
-pub mod Search
-pub mod Inner
+pub mod Inside

@@ -8,12 +8,13 @@ use table::source::Source;
 ghost use mathlib.Core.Path.{_≡_};
 ghost use Prim.Native.Nat.{_<_};
 ghost use lib.ListN.{length};
-ghost use Rattle.table.specs.Fields.{tableOf, Tells};
+ghost use Rattle.table.specs.Fields.{tableOf};
+ghost use Rattle.table.specs.Inside.Right.{Tells};
 ghost use Rattle.judgement.specs.Marks.{markBytes};
 ghost use Rattle.judgement.specs.Verdict.{verdictNumber};
 ghost use Rattle.judgement.specs.Judge.{Judges};
-ghost use Rattle.judge.specs.Inner.{AcceptsIn, verdictOf, Undecided, Decided, RoomRefusing, Refusing};
-ghost use Rattle.judge.specs.Search.{MarkedAccepts};
+ghost use Rattle.judge.specs.Inside.Inner.{AcceptsIn, verdictOf, Undecided, Decided, RoomRefusing, Refusing};
+ghost use Rattle.judge.specs.Inside.Search.{MarkedAccepts};
 
 // The refusal, or 0 for what is judged.
 fn refused(image: &[u8], word: &[u8], limit: u64, marks: &[u8]) -> u64

@@ -5,10 +5,10 @@
 ghost use mathlib.Core.Path.{_≡_};
 ghost use Prim.Native.Nat.{_+_, _^_, _/_, _%_, _≤_, _<_};
 ghost use lib.ListN.{length};
-ghost use Rattle.table.specs.Fields.{Tells};
+ghost use Rattle.table.specs.Inside.Right.{Tells};
 ghost use Rattle.judgement.specs.Marks.{markBytes};
-ghost use Rattle.judge.specs.Search.{situations, marked};
-ghost use Rattle.judge.specs.Inner.{Quiet, FirstSet, Guess, TryRight, Picked};
+ghost use Rattle.judge.specs.Inside.Search.{situations, marked};
+ghost use Rattle.judge.specs.Inside.Inner.{Quiet, FirstSet, Guess, TryRight, Picked};
 
 pub const SITUATIONS: usize = 262144;
 

@@ -13,8 +13,8 @@ ghost use mathlib.Core.Bool.{_&&_};
 ghost use Rattle.table.specs.Fields.{tableOf};
 ghost use Rattle.cells.specs.Code.{symbolIs};
 ghost use Rattle.machine.specs.Step.{symbolFits, counterFits};
-ghost use Rattle.judge.specs.Search.{Searched};
-ghost use Rattle.judge.specs.Inner.{RowHere, RowLeaves, RowFollowed, Waiting, Expanded, Unmarked};
+ghost use Rattle.judge.specs.Inside.Search.{Searched};
+ghost use Rattle.judge.specs.Inside.Inner.{RowHere, RowLeaves, RowFollowed, Waiting, Expanded, Unmarked};
 
 // Whether a row's symbol and test fit what is seen and a counter.
 fn suits(image: &[u8], symbol: u8, test: u8, seen: Symbol, counter: usize) -> bool

@@ -13,7 +13,7 @@ use Rattle.table.specs.Fields.{lettersOf, letterOf, tableOf}
 use Rattle.cells.specs.Cell.{Symbol, leftMark, letter, rightMark}
 use Rattle.machine.specs.Step.{symbolFits, counterFits, changed}
 use Rattle.machine.specs.declared.Outcome.the-variants.{Goes, Blocked, OverLimit}
-use Rattle.machine.specs.Outcome.{outcomeOf}
+use Rattle.machine.specs.Inside.Change.{outcomeOf}
 
 or-true : (a : Bool) {b : Bool} → b ≡ true → (a || b) ≡ true
 or-true true e = refl

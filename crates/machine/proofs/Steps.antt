@@ -13,7 +13,8 @@ use Rattle.cells.specs.Cell.{symbolOn, moved}
 use Rattle.machine.specs.Step.{Situation, symbolFits, counterFits, changed, rowFits, Takes}
 use Rattle.machine.specs.declared.Outcome.{Outcome}
 use Rattle.machine.specs.declared.Outcome.the-variants.{Goes, Blocked, OverLimit}
-use Rattle.machine.specs.Outcome.{stepFrom, stepTo, OutcomeRight, outcomeOf, Steps}
+use Rattle.machine.specs.Outcome.{stepFrom, stepTo, OutcomeRight, Steps}
+use Rattle.machine.specs.Inside.Change.{outcomeOf}
 
 module _ {t : Table} {w : List ℕ} {r : Row} {s : Situation} where
   -- a row takes a situation to one situation

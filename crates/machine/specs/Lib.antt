@@ -2,3 +2,4 @@
 pub mod Step
 pub mod Outcome
 pub mod Run
+pub mod Inside

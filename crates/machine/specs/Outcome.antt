@@ -23,8 +23,3 @@ OutcomeRight t word r limit s OverLimit = (u : Situation) × Takes t word r s u 
 
 pub record Steps (t : Table) (word : List ℕ) (r : Row) (limit : ℕ) (s : Situation) (outcome : Outcome) : Type 0 where
   pub right : OutcomeRight t word r limit s outcome
-
--- what a change of the counter to this, or none, comes to on the way to a cell
-unfoldable pub outcomeOf : ℕ → ℕ → Option ℕ → Outcome
-outcomeOf limit cell none = Blocked
-outcomeOf limit cell (some counter) = cond (leb counter limit) (Goes cell counter) OverLimit

@@ -13,7 +13,8 @@ ghost use Rattle.table.specs.Fields.{tableOf};
 ghost use Rattle.table.specs.RowCode.{rowIs};
 ghost use Rattle.cells.specs.Code.{symbolIs};
 ghost use Rattle.machine.specs.Step.{symbolFits, counterFits, changed};
-ghost use Rattle.machine.specs.Outcome.{stepFrom, outcomeOf, Steps};
+ghost use Rattle.machine.specs.Outcome.{stepFrom, Steps};
+ghost use Rattle.machine.specs.Inside.Change.{outcomeOf};
 
 // What a row's step comes to: a cell and a counter, or the row can't be taken, or it would pass the limit.
 pub enum Outcome {

@@ -11,7 +11,8 @@ use Rattle.table.specs.Form.{editionPlace, alphabetTag, lettersPlace, st
 use Rattle.table.specs.Table.{Table}
 use Rattle.table.specs.Image.{twoBytes, field, rowsBytes, flag, edition, encode}
 use Rattle.table.specs.WellFormed.{IsImage}
-use Rattle.table.specs.Fields.{byteAt, twoAt, lettersOf, widthOf, rowPlace, rowCount, rowsFrom, tableOf, HeadRight, MiddleRight, TailRight}
+use Rattle.table.specs.Fields.{byteAt, twoAt, lettersOf, widthOf, rowPlace, rowCount, rowsFrom, tableOf}
+use Rattle.table.specs.Inside.Right.{HeadRight, MiddleRight, TailRight}
 use Rattle.table.proofs.Width.{rows-in-bytes}
 use Rattle.table.proofs.Image.{length-rows, rows-wide, length-encode}
 use Rattle.table.proofs.Standing.{Stands, stands-field, stands-byte, stands-value, stands-after, stands-next}

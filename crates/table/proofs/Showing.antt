@@ -9,7 +9,8 @@ use Rattle.table.specs.Form.{rowsPlace, wide}
 use Rattle.table.specs.Table.{Row, Table}
 use Rattle.table.specs.WellFormed.{IsImage}
 use Rattle.table.specs.Fields.{lettersOf, widthOf, rowPlace, rowFrom, rowOf, rowCount, tableOf}
-use Rattle.table.specs.Source.{rangeOf, placeIn, rowIn, Shows, Sources}
+use Rattle.table.specs.Source.{rangeOf}
+use Rattle.table.specs.Inside.Showing.{placeIn, rowIn, Shows, Sources}
 use Rattle.table.specs.declared.source.Range.{Range}
 use Rattle.table.specs.declared.source.Source.{Source}
 use Rattle.table.specs.declared.source.Source.the-variants.{Image}

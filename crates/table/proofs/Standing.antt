@@ -7,7 +7,8 @@ use mathlib.Core.List.{List, _++_}
 use lib.ListN.{length, getD, take, drop, List·getD-append}
 use lib.Seq.{drop-drop, drop-at, take-at, getD-drop}
 use Rattle.table.specs.Image.{twoBytes, field}
-use Rattle.table.specs.Fields.{byteAt, FieldAt}
+use Rattle.table.specs.Fields.{byteAt}
+use Rattle.table.specs.Inside.Right.{FieldAt}
 
 -- at this place the image goes on with this field, and then with these bytes
 pub record Stands (image : List ℕ) (at tag : ℕ) (value rest : List ℕ) : Type 0 where

@@ -6,7 +6,7 @@ use mathlib.Core.Bool.{Bool, true, false, not, true≢false}
 use borrow.Author.Tests.{not-true, not-false, le-leb, lt-leb}
 use lib.Dec.{T}
 use Rattle.bits.specs.Byte.{between}
-use Rattle.table.specs.Fields.{Tells}
+use Rattle.table.specs.Inside.Right.{Tells}
 
 -- a result that is known
 pub tells-yes : {r : Bool} {P : Type 0} → r ≡ true → P → Tells r P

@@ -7,3 +7,4 @@ pub mod Refusal
 pub mod Fields
 pub mod RowCode
 pub mod Source
+pub mod Inside

@@ -3,7 +3,7 @@ use borrow.Author.Count.{below-none, below-more}
 use Prim.Native.Nat.{ℕ, _≤_, _<_, _-_}
 use native.Mathlib.Omega.{arith}
 use Rattle.table.specs.Fields.{tableOf}
-use Rattle.judge.specs.Inner.{AcceptsIn}
+use Rattle.judge.specs.Inside.Inner.{AcceptsIn}
 use mathlib.Core.Path.{refl}
 use Rattle.table.proofs.Telling.{tells-yes, tells-no}
 use Rattle.judge.proofs.Answers.{accepted-in, accepted-nowhere}

@@ -3,7 +3,7 @@ use borrow.Author.Needs.{needs}
 use native.Mathlib.Omega.{arith}
 use mathlib.Core.Path.{sym}
 use Rattle.judgement.proofs.Verdict.{verdict-low}
-use Rattle.judge.specs.Inner.{verdictOf}
+use Rattle.judge.specs.Inside.Inner.{verdictOf}
 use Rattle.judge.proofs.Found.{cleared-unmarked, half-length, count-low, found-decided}
 use Rattle.judge.proofs.decide.Statement.{statement}
 use Rattle.judge.proofs.decide.Tie as tie

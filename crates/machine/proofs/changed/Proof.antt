@@ -1,7 +1,7 @@
 -- `machine::changed` meets its contract: a rise, a fall, and a fall below zero.
 use borrow.Author.Needs.{needs}
 use mathlib.Core.Path.{sym, ap, _∙_}
-use Rattle.machine.specs.Outcome.{outcomeOf}
+use Rattle.machine.specs.Inside.Change.{outcomeOf}
 use Rattle.machine.proofs.Fits.{changed-up, changed-down, changed-stops, changed-dies}
 use Rattle.machine.proofs.changed.Statement.{statement}
 use Rattle.machine.proofs.changed.Tie as tie

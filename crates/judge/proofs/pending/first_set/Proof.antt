@@ -2,7 +2,7 @@
 use mathlib.Core.Path.{refl}
 use Prim.Native.Nat.{_≤_, _-_}
 use native.Mathlib.Omega.{arith}
-use Rattle.judge.specs.Inner.{Quiet}
+use Rattle.judge.specs.Inside.Inner.{Quiet}
 use Rattle.judge.proofs.Bytes.{quiet-none, quiet-more, first-here, first-nowhere}
 use Rattle.judge.proofs.pending.first_set.Statement.{statement}
 use Rattle.judge.proofs.pending.first_set.Tie as tie

@@ -5,10 +5,10 @@ use Prim.Native.Nat.{_≤_, _-_}
 use native.Mathlib.Omega.{arith}
 use mathlib.Core.Path.{_≡_, refl, sym, _∙_}
 use Rattle.table.specs.Fields.{tableOf}
-use Rattle.table.specs.Source.{placeIn}
+use Rattle.table.specs.Inside.Showing.{placeIn}
 use Rattle.table.proofs.Showing.{range-first}
-use Rattle.judge.specs.Search.{Followed, Searching, Keeps}
-use Rattle.judge.specs.Inner.{Shown}
+use Rattle.judge.specs.Inside.Search.{Followed, Searching, Keeps}
+use Rattle.judge.specs.Inside.Inner.{Shown}
 use Rattle.judge.proofs.Following.{same-keeps, place-again, expand-shows, expand-inside, expand-begins, expand-followed, expand-ends}
 use Rattle.judge.proofs.search.expand.Statement.{statement}
 use Rattle.judge.proofs.search.expand.Tie as tie

@@ -4,7 +4,7 @@ use Prim.Native.Nat.{_+_, _*_, _<_}
 use native.Mathlib.Omega.{arith}
 use mathlib.Core.Path.{sym, _∙_}
 use borrow.Author.Tests.{not-true}
-use Rattle.judge.specs.Search.{situations}
+use Rattle.judge.specs.Inside.Search.{situations}
 use Rattle.judge.proofs.Following.{followed-unfit, followed-blocked, followed-above, goes-below, followed-goes}
 use borrow.Author.Needs.{needs}
 use Rattle.judge.proofs.search.follow.Statement.{statement}

@@ -2,7 +2,7 @@
 use native.Mathlib.Omega.{arith}
 use mathlib.Core.Path.{sym, _∙_}
 use Rattle.table.specs.Fields.{tableOf}
-use Rattle.judge.specs.Search.{Between}
+use Rattle.judge.specs.Inside.Search.{Between}
 use Rattle.judge.proofs.Left.{left}
 use Rattle.judge.proofs.Picking.{begins-between, picked-waiting, picked-none, expand-falls}
 use Rattle.judge.proofs.search.search.Statement.{statement}

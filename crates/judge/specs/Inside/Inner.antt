@@ -10,14 +10,14 @@ use Rattle.bits.specs.Size.{Size}
 use Rattle.table.specs.Table.{Row, Table, Accepting}
 use Rattle.table.specs.Refusal.{First, refusal}
 use Rattle.table.specs.Fields.{rowFrom, tableOf}
-use Rattle.table.specs.Source.{placeIn, rowIn, Shows, Sources}
+use Rattle.table.specs.Inside.Showing.{placeIn, rowIn, Shows, Sources}
 use Rattle.table.specs.declared.source.Range.{Range}
 use Rattle.table.specs.declared.source.Source.{Source}
 use Rattle.cells.specs.Cell.{Symbol, symbolOn}
 use Rattle.machine.specs.Run.{Reach}
 use Rattle.judgement.specs.Verdict.{Verdict, Yes, No, LimitMet, verdictNumber, IsVerdict}
 use Rattle.judgement.specs.Marks.{markBytes, firstHalf, Marks}
-use Rattle.judge.specs.Search.{situations, situationOf, Followed, Ready, Searching, Between, Keeps}
+use Rattle.judge.specs.Inside.Search.{situations, situationOf, Followed, Ready, Searching, Between, Keeps}
 use Rattle.judgement.specs.Judge.{reasons, Judgeable}
 use Rattle.judge.specs.declared.pending.Try.{Try}
 use Rattle.judge.specs.declared.pending.Try.the-variants.{Found, Stale, Nothing}
