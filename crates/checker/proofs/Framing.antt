@@ -12,8 +12,8 @@ use Rattle.table.specs.Form.{
   editionPlace,
   alphabetTag,
   lettersPlace,
-  stopsTag,
-  stopsPlace,
+  decrOnZeroTag,
+  decrOnZeroPlace,
   statesTag,
   statesPlace,
   acceptingTag,
@@ -59,10 +59,10 @@ module _ (image : List ℕ) (bytes : Bytes image) (head : HeadRight image) (midd
   edition-value : take 1 (drop editionPlace image) ≡ edition (tableOf image) ∷ []
   edition-value = take-bytes image editionPlace 1 (omega (arith, end)) ∙ ap (λ (b : ℕ). b ∷ []) (head .named)
 
-  flag-value : take 1 (drop (stopsPlace (lettersOf image)) image) ≡ flag (eqb (byteAt image (stopsPlace (lettersOf image))) 1) ∷ []
+  flag-value : take 1 (drop (decrOnZeroPlace (lettersOf image)) image) ≡ flag (eqb (byteAt image (decrOnZeroPlace (lettersOf image))) 1) ∷ []
   flag-value =
-      take-bytes image (stopsPlace (lettersOf image)) 1 (omega (arith, end))
-      ∙ ap (λ (b : ℕ). b ∷ []) (ap (byteAt image) (add-zero (stopsPlace (lettersOf image))) ∙ sym (flag-of _ (middle .flag)))
+      take-bytes image (decrOnZeroPlace (lettersOf image)) 1 (omega (arith, end))
+      ∙ ap (λ (b : ℕ). b ∷ []) (ap (byteAt image) (add-zero (decrOnZeroPlace (lettersOf image))) ∙ sym (flag-of _ (middle .flag)))
 
   states-value : take 2 (drop (statesPlace (lettersOf image)) image) ≡ twoBytes (twoAt image (statesPlace (lettersOf image)))
   unfolding twoBytes
@@ -87,8 +87,8 @@ module _ (image : List ℕ) (bytes : Bytes image) (head : HeadRight image) (midd
       let k = lettersOf image in
       let many = bytesOf (widthOf image) (rowCount image) in
       stands-of image 0 1 1 editionPlace alphabetTag bytes refl refl (omega (arith, end)) (head .first) edition-value
-      (stands-of image alphabetTag 2 k lettersPlace (stopsTag k) bytes refl (omega arith) (omega (arith, end)) (head .second) refl
-      (stands-of image (stopsTag k) 3 1 (stopsPlace k) (statesTag k) bytes (omega arith) (omega arith) (omega (arith, end)) (middle .third) flag-value
+      (stands-of image alphabetTag 2 k lettersPlace (decrOnZeroTag k) bytes refl (omega arith) (omega (arith, end)) (head .second) refl
+      (stands-of image (decrOnZeroTag k) 3 1 (decrOnZeroPlace k) (statesTag k) bytes (omega arith) (omega arith) (omega (arith, end)) (middle .third) flag-value
       (stands-of image (statesTag k) 4 2 (statesPlace k) (acceptingTag k) bytes (omega arith) (omega arith) (omega (arith, end)) (middle .fourth) states-value
       (stands-of image (acceptingTag k) 5 acceptingBytes (acceptingPlace k) (rowsTag k) bytes (omega arith) (omega arith) (omega (arith, end)) (tail .fifth) refl
       (stands-of

@@ -54,10 +54,10 @@ fn middle_right(image: &[u8]) -> bool
 {
     let k = letter_count(image);
     let states = state_count(image);
-    if !field_at(image, k + form::STOPS_TAG, 3, 1) {
+    if !field_at(image, k + form::DECR_ON_ZERO_TAG, 3, 1) {
         return false;
     }
-    if 1 < bits::byte_at(image, k + form::STOPS_PLACE) {
+    if 1 < bits::byte_at(image, k + form::DECR_ON_ZERO_PLACE) {
         return false;
     }
     if !field_at(image, k + form::STATES_TAG, 4, 2) {

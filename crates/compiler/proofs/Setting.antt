@@ -328,12 +328,12 @@ module _ {text out : List ℕ} {from : ℕ} {t : Seen} (sees : Sees text 0 t) wh
 
 -- both settings are read
 module _ {text before after : List ℕ} {from : ℕ} {us : Ts} {l : List Letter} {d : Bool} {listed : Listed} (lists : Lists text from before after listed) where
-  pub settled-first : {behind end : ℕ} {stops : Bool}
+  pub settled-first : {behind end : ℕ} {decrOnZero : Bool}
       → LettersFirst text before from us l d
       → GoesPast text (listed .at) 2 behind
       → GoesPast text behind 3 end
-      → Tells text behind stops
-      → Settling text before after us l d (record { at = end; count = listed .count; stops = stops })
+      → Tells text behind decrOnZero
+      → Settling text before after us l d (record { at = end; count = listed .count; «decr_on_zero» = decrOnZero })
   settled-first {behind} {end} f pass pass′ tells =
       let listing = lists .lists (f .stand) in
       let here = subst (Here text behind) (f .is) (pass .behind _ (listing .here) (f .long) .here) in
@@ -341,21 +341,21 @@ module _ {text before after : List ℕ} {from : ℕ} {us : Ts} {l : List Letter}
         here = subst (Here text end) (f .ends) (pass′ .behind _ here (f .longer) .here);
         bytes = listing .bytes;
         count = listing .count;
-        stops = tells .tells here (f .derived);
+        decrOnZero = tells .tells here (f .derived);
       }
 
-  pub settled-last : {at₀ end : ℕ} {stops : Bool}
+  pub settled-last : {at₀ end : ℕ} {decrOnZero : Bool}
       → LettersLast text before at₀ from us l d
       → GoesPast text (listed .at) 1 end
-      → Tells text at₀ stops
-      → Settling text before after us l d (record { at = end; count = listed .count; stops = stops })
+      → Tells text at₀ decrOnZero
+      → Settling text before after us l d (record { at = end; count = listed .count; «decr_on_zero» = decrOnZero })
   settled-last {end = end} f pass tells =
       let listing = lists .lists (f .stand) in
       record {
         here = subst (Here text end) (f .ends) (pass .behind _ (listing .here) (f .long) .here);
         bytes = listing .bytes;
         count = listing .count;
-        stops = tells .tells (f .here) (f .derived);
+        decrOnZero = tells .tells (f .here) (f .derived);
       }
 
 -- a program: its settings, five tokens more, and the statements of its block
@@ -363,7 +363,7 @@ record Opening (ts : Ts) (p : Program) : Type 0 where
   pub front : Ts
   pub rest : Ts
   pub close : ℕ
-  pub settings : IsSettings ts (p .first) (p .alphabet) (p .stops) (p .truth) front
+  pub settings : IsSettings ts (p .first) (p .alphabet) (p .decrOnZero) (p .truth) front
   pub long : 5 ≤ length front
   pub is : drop 5 front ≡ rest
   pub body : IsStatements rest (p .body) ((s "}" at close) ∷ [])
@@ -379,7 +379,7 @@ module _ {text before : List ℕ} {states rows : ℕ} {p : Program} (fits : Fits
   few : length (letterBytes (p .alphabet)) ≤ 16
   few = program-within p (fits .reads .faultless) .few
 
-  settings-at : SettingsAt text before (fits .reads .tokens) (opens .front) (p .alphabet) (p .stops)
+  settings-at : SettingsAt text before (fits .reads .tokens) (opens .front) (p .alphabet) (p .decrOnZero)
   settings-at =
       record {
         here = record { ending = _; tokens = fits .reads .ofText };
@@ -394,7 +394,7 @@ module _ {text before : List ℕ} {states rows : ℕ} {p : Program} (fits : Fits
   fits-settings = record { ts = _; us = _; l = _; d = _; stand = settings-at }
 
   module _ {middle : List ℕ} {settled : Settled} (settles : Settles text before middle settled) where
-    settling : Settling text before middle (opens .front) (p .alphabet) (p .stops) settled
+    settling : Settling text before middle (opens .front) (p .alphabet) (p .decrOnZero) settled
     settling = settles .settles settings-at
 
     pub fits-header : (settled .count ≤ 16) × (states ≤ 128) × (rows ≤ 1024) × (imageRoom ≤ length middle)
@@ -407,7 +407,7 @@ module _ {text before : List ℕ} {states rows : ℕ} {p : Program} (fits : Fits
 
     -- the header is written, and the block's statements are next
     pub fits-beginning : {after : List ℕ} {end : ℕ}
-        → Heads middle after (settled .count) (settled .stops) states rows
+        → Heads middle after (settled .count) (settled .«decr_on_zero») states rows
         → GoesPast text (settled .at) 5 end
         → Beginning text before after states rows p (record { at = end; state = 0; next = 1; row = rowsPlace (settled .count) })
     unfolding programPart construct
@@ -422,8 +422,8 @@ module _ {text before : List ℕ} {states rows : ℕ} {p : Program} (fits : Fits
               here = subst (Here text end) (opens .is) (pass .behind _ (settling .here) (opens .long) .here);
               filled = record {
                 holds =
-                    subst (λ (stops : Bool). Holds (record { old = before; alphabet = alphabet; stops = stops; states = states; count = rows }) [] [] after)
-                    (settling .stops)
+                    subst (λ (decrOnZero : Bool). Holds (record { old = before; alphabet = alphabet; decrOnZero = decrOnZero; states = states; count = rows }) [] [] after)
+                    (settling .decrOnZero)
                     holds;
                 here = omega (arith, count);
               };
@@ -452,7 +452,7 @@ whole-image {before = before} {states = states} {rows = rows} {p = p} {r = r} fi
     written-whole h (part .accepting) (part .rows) (fits .rowsAre)
     ∙ ap (λ (n : ℕ). encode (record {
       alphabet = h .alphabet;
-      stops = h .stops;
+      decrOnZero = h .decrOnZero;
       states = n;
       accepting = acceptBytes (part .accepting);
       rows = part .rows;

@@ -112,7 +112,7 @@ lead : Sheet → List ℕ
 lead h = field 1 (1 ∷ []) ++ field 2 (h .alphabet)
 
 back : Sheet → List ℕ
-back h = field 3 (flag (h .stops) ∷ []) ++ (field 4 (twoBytes (h .states)) ++ (5 ∷ twoBytes acceptingBytes))
+back h = field 3 (flag (h .decrOnZero) ∷ []) ++ (field 4 (twoBytes (h .states)) ++ (5 ∷ twoBytes acceptingBytes))
 
 rest : Sheet → List ℕ → List Row → List ℕ
 rest h accepting rows = back h ++ (acceptBytes accepting ++ (6 ∷ (twoBytes (rowWidth * h .count) ++ rowsBytes rows)))
@@ -228,8 +228,8 @@ abbrev pub before-letters : ℕ → List ℕ
 before-letters count = 1 ∷ 0 ∷ 1 ∷ 1 ∷ 2 ∷ 0 ∷ count ∷ []
 
 abbrev pub behind-letters : ℕ → ℕ → ℕ → ℕ → ℕ → List ℕ
-behind-letters stops highStates lowStates highSize lowSize =
-    3 ∷ 0 ∷ 1 ∷ stops ∷ 4 ∷ 0 ∷ 2 ∷ highStates ∷ lowStates ∷ 5 ∷ 0 ∷ acceptingBytes
+behind-letters decrOnZero highStates lowStates highSize lowSize =
+    3 ∷ 0 ∷ 1 ∷ decrOnZero ∷ 4 ∷ 0 ∷ 2 ∷ highStates ∷ lowStates ∷ 5 ∷ 0 ∷ acceptingBytes
     ∷ 0 ∷ 0 ∷ 0 ∷ 0 ∷ 0 ∷ 0 ∷ 0 ∷ 0 ∷ 0 ∷ 0 ∷ 0 ∷ 0 ∷ 0 ∷ 0 ∷ 0 ∷ 0
     ∷ 6 ∷ highSize ∷ lowSize ∷ []
 
@@ -237,7 +237,7 @@ behind-letters stops highStates lowStates highSize lowSize =
 header-bytes : (h : Sheet) (k f s₁ s₂ n₁ n₂ : ℕ)
     → length (h .alphabet) ≤ 16
     → k ≡ length (h .alphabet) % 256
-    → f ≡ flag (h .stops)
+    → f ≡ flag (h .decrOnZero)
     → s₁ ≡ h .states / 256
     → s₂ ≡ h .states % 256
     → n₁ ≡ rowWidth * h .count / 256
@@ -250,29 +250,29 @@ header-bytes h k f s₁ s₂ n₁ n₂ few k-is f-is s₁-is s₂-is n₁-is n�
     ∙ ap (λ (l : List ℕ). 1 ∷ 0 ∷ 1 ∷ 1 ∷ 2 ∷ length (h .alphabet) / 256 ∷ length (h .alphabet) % 256 ∷ l)
     (sym
     (append-assoc (h .alphabet)
-    (3 ∷ 0 ∷ 1 ∷ flag (h .stops) ∷ 4 ∷ 0 ∷ 2 ∷ h .states / 256 ∷ h .states % 256 ∷ 5 ∷ 0 ∷ acceptingBytes ∷ [])
+    (3 ∷ 0 ∷ 1 ∷ flag (h .decrOnZero) ∷ 4 ∷ 0 ∷ 2 ∷ h .states / 256 ∷ h .states % 256 ∷ 5 ∷ 0 ∷ acceptingBytes ∷ [])
     (acceptBytes [] ++ (6 ∷ twoBytes (rowWidth * h .count)))))
 
-pub heads : {before middle after : List ℕ} (count : ℕ) (stops : Bool) (states rows k f s₁ s₂ n₁ n₂ : ℕ)
+pub heads : {before middle after : List ℕ} (count : ℕ) (decrOnZero : Bool) (states rows k f s₁ s₂ n₁ n₂ : ℕ)
     → (count ≤ 16) × (states ≤ 128) × (rows ≤ 1024) × (imageRoom ≤ length before)
     → k ≡ count % 256
-    → f ≡ flag stops
+    → f ≡ flag decrOnZero
     → s₁ ≡ states / 256
     → s₂ ≡ states % 256
     → n₁ ≡ rowWidth * rows / 256
     → n₂ ≡ rowWidth * rows % 256
     → middle ≡ over before 0 (before-letters k)
     → after ≡ over middle (count + lettersPlace) (behind-letters f s₁ s₂ n₁ n₂)
-    → Heads before after count stops states rows
-heads {before} {middle} {after} count stops states rows k f s₁ s₂ n₁ n₂ bounds k-is f-is s₁-is s₂-is n₁-is n₂-is middle-is after-is =
+    → Heads before after count decrOnZero states rows
+heads {before} {middle} {after} count decrOnZero states rows k f s₁ s₂ n₁ n₂ bounds k-is f-is s₁-is s₂-is n₁-is n₂-is middle-is after-is =
     record { heads = head }
   where
     head : (old alphabet : List ℕ)
         → before ≡ over old lettersPlace alphabet
         → count ≡ length alphabet
-        → Holds (record { old = old; alphabet = alphabet; stops = stops; states = states; count = rows }) [] [] after
+        → Holds (record { old = old; alphabet = alphabet; decrOnZero = decrOnZero; states = states; count = rows }) [] [] after
     head old alphabet before-is count-is =
-        let h : Sheet = record { old = old; alphabet = alphabet; stops = stops; states = states; count = rows } in
+        let h : Sheet = record { old = old; alphabet = alphabet; decrOnZero = decrOnZero; states = states; count = rows } in
         let new : List ℕ = behind-letters f s₁ s₂ n₁ n₂ in
         let lead : List ℕ = before-letters k ++ alphabet in
         let size : length before ≡ length (take lettersPlace old) + (length alphabet + (length old - (lettersPlace + length alphabet))) =
@@ -312,7 +312,7 @@ pub written-whole : (h : Sheet) (accepting : List ℕ) (rows : List Row)
     → written h accepting rows
     ≡ encode (record {
       alphabet = h .alphabet;
-      stops = h .stops;
+      decrOnZero = h .decrOnZero;
       states = h .states;
       accepting = acceptBytes accepting;
       rows = rows;
@@ -323,7 +323,7 @@ written-whole h accepting rows all =
     let m : acceptingBytes ≡ length (acceptBytes accepting) = sym (length-accept accepting) in
     let a = field 1 (firstEdition ∷ []) in
     let b = field 2 (h .alphabet) in
-    let c = field 3 (flag (h .stops) ∷ []) in
+    let c = field 3 (flag (h .decrOnZero) ∷ []) in
     let d = field 4 (twoBytes (h .states)) in
     in-order a b c d (5 ∷ twoBytes acceptingBytes) (acceptBytes accepting ++ (6 ∷ (twoBytes (rowWidth * h .count) ++ rowsBytes rows)))
     ∙ (λ i. a ++ (b ++ (c ++ (d ++ (5 ∷ (twoBytes (m i) ++ (acceptBytes accepting ++ (6 ∷ (twoBytes (n i) ++ rowsBytes rows)))))))))

@@ -53,7 +53,7 @@ fn truth(text: &[u8], at: usize) -> bool
 struct Settled {
     at: usize,
     count: usize,
-    stops: bool,
+    decr_on_zero: bool,
 }
 
 // The two settings, in either order.
@@ -70,7 +70,7 @@ fn emit_settings(text: &[u8], out: &mut [u8]) -> Settled
             Settled {
                 at: past(text, behind, 3),
                 count: listed.count,
-                stops: truth(text, behind),
+                decr_on_zero: truth(text, behind),
             }
         }
         _ => {
@@ -78,7 +78,7 @@ fn emit_settings(text: &[u8], out: &mut [u8]) -> Settled
             Settled {
                 at: past(text, listed.at, 1),
                 count: listed.count,
-                stops: truth(text, t.end),
+                decr_on_zero: truth(text, t.end),
             }
         }
     }
@@ -90,7 +90,7 @@ pub fn begin(text: &[u8], out: &mut [u8], states: usize, rows: usize) -> Place
     ensures { λ r. ⌜ Begins (now (text .entry)) (now (out .entry)) (now (out .exit)) states rows r ⌝ }
 {
     let settled = emit_settings(text, out);
-    write::header(out, settled.count, settled.stops, states, rows);
+    write::header(out, settled.count, settled.decr_on_zero, states, rows);
     Place {
         at: past(text, settled.at, 5),
         state: 0,

@@ -25,10 +25,10 @@ fn low(n: usize) -> u8
     (n % 256) as u8
 }
 
-fn flag_of(stops: bool) -> u8
-    ensures { λ r. ⌜ r ≡ flag stops ⌝ }
+fn flag_of(decr_on_zero: bool) -> u8
+    ensures { λ r. ⌜ r ≡ flag «decr_on_zero» ⌝ }
 {
-    if stops { 1 } else { 0 }
+    if decr_on_zero { 1 } else { 0 }
 }
 
 // These bytes from this place on.
@@ -42,9 +42,9 @@ fn put(out: &mut [u8], at: usize, bytes: &[u8])
 const ACCEPTING: u8 = form::ACCEPTING_BYTES as u8;
 
 // Everything before the rows but the letters, which stand already. No state accepts yet.
-pub fn header(out: &mut [u8], count: usize, stops: bool, states: usize, rows: usize)
+pub fn header(out: &mut [u8], count: usize, decr_on_zero: bool, states: usize, rows: usize)
     requires { ⌜ (count ≤ 16) × (states ≤ 128) × (rows ≤ 1024) × (imageRoom ≤ length (now out)) ⌝ }
-    ensures { λ _. ⌜ Heads (now (out .entry)) (now (out .exit)) count stops states rows ⌝ }
+    ensures { λ _. ⌜ Heads (now (out .entry)) (now (out .exit)) count «decr_on_zero» states rows ⌝ }
 {
     let front = [1, 0, 1, form::FIRST_EDITION, 2, 0, low(count)];
     put(out, 0, &front);
@@ -53,7 +53,7 @@ pub fn header(out: &mut [u8], count: usize, stops: bool, states: usize, rows: us
         3,
         0,
         1,
-        flag_of(stops),
+        flag_of(decr_on_zero),
         4,
         0,
         2,
@@ -82,7 +82,7 @@ pub fn header(out: &mut [u8], count: usize, stops: bool, states: usize, rows: us
         high(size),
         low(size),
     ];
-    put(out, count + form::STOPS_TAG, &back);
+    put(out, count + form::DECR_ON_ZERO_TAG, &back);
 }
 
 // A row. The next one is written where it ends.

@@ -48,8 +48,8 @@ both-false false b = (λ e. (refl, e), λ e. e .1)
 pub still-moves : {r : Row} (word : List ℕ) (cell : ℕ) → Still r → cell ≤ last word → moved word (r .move) cell ≡ cell
 still-moves word cell still inside = rw (still .move) (stays word cell inside)
 
-pub still-changes : {r : Row} (stops : Bool) (counter : ℕ) → Still r → changed stops (r .change) counter ≡ some counter
-still-changes stops counter still = rw (still .change) (keeps stops counter)
+pub still-changes : {r : Row} (decrOnZero : Bool) (counter : ℕ) → Still r → changed decrOnZero (r .change) counter ≡ some counter
+still-changes decrOnZero counter still = rw (still .change) (keeps decrOnZero counter)
 
 -- a row from p to q that only tests
 pub record Between (p q : ℕ) (r : Row) : Type 0 where

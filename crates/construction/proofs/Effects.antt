@@ -79,31 +79,31 @@ module _ (word : List ℕ) where
   plain-inside (add n) cell inside = inside
   plain-inside (subtract n) cell inside = inside
 
-module _ (stops : Bool) where
+module _ (decrOnZero : Bool) where
   -- a change by what the code is above or below `noChange`
-  raises : (n counter : ℕ) → changed stops (noChange + n) counter ≡ some (counter + n)
+  raises : (n counter : ℕ) → changed decrOnZero (noChange + n) counter ≡ some (counter + n)
   unfolding changed
   raises n counter =
       let sum : counter + (noChange + n) - noChange ≡ counter + n = omega arith in
       rw (le-leb noChange (counter + (noChange + n)) (omega arith), sum)
 
-  lowers : (n counter : ℕ) → n ≤ noChange → changed stops (noChange - n) counter ≡ lowered stops n counter
+  lowers : (n counter : ℕ) → n ≤ noChange → changed decrOnZero (noChange - n) counter ≡ lowered decrOnZero n counter
   unfolding changed lowered
   lowers n counter h = go (decLe n counter)
     where
-      go : Dec (n ≤ counter) → changed stops (noChange - n) counter ≡ lowered stops n counter
+      go : Dec (n ≤ counter) → changed decrOnZero (noChange - n) counter ≡ lowered decrOnZero n counter
       go (yes k) =
           let difference : counter + (noChange - n) - noChange ≡ counter - n = omega arith in
           rw (le-leb noChange (counter + (noChange - n)) (omega arith), le-leb n counter k, difference)
       go (no k) = rw (lt-leb noChange (counter + (noChange - n)) (omega arith), lt-leb n counter (omega arith))
 
   -- a row that does not change the counter
-  pub keeps : (counter : ℕ) → changed stops noChange counter ≡ some counter
+  pub keeps : (counter : ℕ) → changed decrOnZero noChange counter ≡ some counter
   keeps counter = raises 0 counter ∙ ap (λ (n : ℕ). some n) (add-zero counter)
 
   -- a plain statement's row changes the counter as the statement
   pub plain-changes :
-      (e : Plain) (counter : ℕ) → PlainWithin e → changed stops (changeCode e) counter ≡ counterAfter stops e counter
+      (e : Plain) (counter : ℕ) → PlainWithin e → changed decrOnZero (changeCode e) counter ≡ counterAfter decrOnZero e counter
   unfolding changeCode counterAfter PlainWithin
   plain-changes (moveBy n) counter within = keeps counter
   plain-changes (moveBack n) counter within = keeps counter

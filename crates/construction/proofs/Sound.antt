@@ -94,7 +94,7 @@ module _ (x : Trial) (role : ℕ → Role) where
       → ((cell counter counter′ : ℕ)
       → symbolFits (t .alphabet) (r .symbol) (symbolOn word cell) ≡ true
       → counterFits (r .test) counter ≡ true
-      → changed (t .stops) (r .change) counter ≡ some counter′
+      → changed (t .decrOnZero) (r .change) counter ≡ some counter′
       → counter′ ≤ limit
       → At (r .from) cell counter
       → At (r .to) (moved word (r .move) cell) counter′)
@@ -121,7 +121,7 @@ module _ (x : Trial) (role : ℕ → Role) where
   still-sound r still f =
       row-sound r
       (λ cell counter counter′ e g change low h.
-      let same = Option·some-injective counter′ counter (sym change ∙ still-changes (t .stops) counter still) in
+      let same = Option·some-injective counter′ counter (sym change ∙ still-changes (t .decrOnZero) counter still) in
       rw (still-moves word cell still (here-inside h), same) (f cell counter e g h))
 
   -- a free row
@@ -138,7 +138,7 @@ module _ (x : Trial) (role : ℕ → Role) where
   plain-sound e a b rest within left right =
       row-sound (plainRow e a b)
       (λ cell counter counter′ f g change low h.
-      let after = sym (plain-changes (t .stops) e counter within) ∙ change in
+      let after = sym (plain-changes (t .decrOnZero) e counter within) ∙ change in
       rw (plain-moves word e cell within (here-inside h), right)
       (comes (goes (came (rw left at h)) (does (rw (← (x .same)) at after)) low)))
 

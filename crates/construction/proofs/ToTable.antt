@@ -124,7 +124,7 @@ module _ (x : Trial) where
           fits = fits-row (record { state = refl; symbol = e; counter = f });
           state = refl;
           cell = sym (still-moves word cell still inside);
-          counter = still-changes (t .stops) counter still;
+          counter = still-changes (t .decrOnZero) counter still;
         }
 
     -- and leads on
@@ -363,7 +363,7 @@ module _ (x : Trial) where
     plain-takes :
         (e : Plain) (p q counter′ : ℕ)
         → PlainWithin e
-        → counterAfter (t .stops) e counter ≡ some counter′
+        → counterAfter (t .decrOnZero) e counter ≡ some counter′
         → Takes t word (plainRow e p q)
         (record { state = p; cell = cell; counter = counter })
         (record { state = q; cell = cellAfter word e cell; counter = counter′ })
@@ -374,13 +374,13 @@ module _ (x : Trial) where
               (record { state = refl; symbol = any-fits (t .alphabet) (symbolOn word cell); counter = either-fits counter });
           state = refl;
           cell = sym (plain-moves word e cell within inside);
-          counter = plain-changes (t .stops) e counter within ∙ h;
+          counter = plain-changes (t .decrOnZero) e counter within ∙ h;
         }
 
     -- and leads on to the rest
     plain-arrives :
         {l : ℕ} {e : Plain} {rest : Statements} {counter′ : ℕ}
-        → counterAfter (t .stops) e counter ≡ some counter′
+        → counterAfter (t .decrOnZero) e counter ≡ some counter′
         → counter′ ≤ limit
         → Starts (plain l e) rest cell counter
         → Arrived rest (cellAfter word e cell) counter′

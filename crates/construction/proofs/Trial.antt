@@ -26,7 +26,7 @@ pub record Trial : Type 0 where
   pub few : length (table .alphabet) ≤ 16
   pub different : List·Nodup (table .alphabet)
   pub known : (cell : ℕ) → Known (table .alphabet) (symbolOn word cell)
-  pub same : program .stops ≡ table .stops
+  pub same : program .decrOnZero ≡ table .decrOnZero
 
 -- what stands on a cell of a word of these letters is a mark or one of them
 pub known-symbol :

@@ -280,7 +280,7 @@ unfoldable pub construct : Program → Table
 construct p =
     record {
       alphabet = letterBytes (p .alphabet);
-      stops = p .stops;
+      decrOnZero = p .decrOnZero;
       states = programPart p .next;
       accepting = withBits (replicate acceptingBytes 0) (programPart p .accepting);
       rows = programPart p .rows;

@@ -74,28 +74,28 @@ pub letter-compared : (image : List ℕ) (code b at found : ℕ) → code < min 
 letter-compared image code b at found inside here is =
     rw (lt-ltb code (length (tableOf image .alphabet)) (omega (arith, letters-many image)), is, here) refl
 
-module _ (stops : Bool) (code counter by : ℕ) (is : by ≡ code) where
+module _ (decrOnZero : Bool) (code counter by : ℕ) (is : by ≡ code) where
   -- a rise
-  pub changed-up : Form.noChange ≤ by → changed stops code counter ≡ some (counter + (by - Form.noChange))
+  pub changed-up : Form.noChange ≤ by → changed decrOnZero code counter ≡ some (counter + (by - Form.noChange))
   unfolding changed
   changed-up up = rw (le-leb Form.noChange (counter + code) (omega arith)) (ap some (omega arith))
 
   -- a fall that does not lead below zero
-  pub changed-down : by < Form.noChange → Form.noChange - by ≤ counter → changed stops code counter ≡ some (counter - (Form.noChange - by) + 0)
+  pub changed-down : by < Form.noChange → Form.noChange - by ≤ counter → changed decrOnZero code counter ≡ some (counter - (Form.noChange - by) + 0)
   unfolding changed
   changed-down down enough = rw (le-leb Form.noChange (counter + code) (omega arith)) (ap some (omega arith))
 
   -- and one that does
-  changed-below : counter < Form.noChange - by → changed stops code counter ≡ cond stops (some 0) none
+  changed-below : counter < Form.noChange - by → changed decrOnZero code counter ≡ cond decrOnZero (some 0) none
   unfolding changed
   changed-below low = rw (lt-leb Form.noChange (counter + code) (omega arith)) refl
 
   -- where it stops at zero, and where it does not
-  pub changed-stops : (limit cell : ℕ) → counter < Form.noChange - by → stops ≡ true → outcomeOf limit cell (changed stops code counter) ≡ Goes cell 0
+  pub changed-stops : (limit cell : ℕ) → counter < Form.noChange - by → decrOnZero ≡ true → outcomeOf limit cell (changed decrOnZero code counter) ≡ Goes cell 0
   unfolding outcomeOf
   changed-stops limit cell low e = rw (changed-below low, e, leb·zero limit) refl
 
-  pub changed-dies : (limit cell : ℕ) → counter < Form.noChange - by → stops ≡ false → outcomeOf limit cell (changed stops code counter) ≡ Blocked
+  pub changed-dies : (limit cell : ℕ) → counter < Form.noChange - by → decrOnZero ≡ false → outcomeOf limit cell (changed decrOnZero code counter) ≡ Blocked
   unfolding outcomeOf
   changed-dies limit cell low e = rw (changed-below low, e) refl
 

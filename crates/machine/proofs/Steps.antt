@@ -50,7 +50,7 @@ steps-once {t} {w} {r} {L} {s} {a} {b} x y = right-once t w r L s a b (x .right)
 module _ (t : Table) (w : List ℕ) (r : Row) (L cell counter : ℕ) where
   -- a row that fits comes to what its change of the counter does
   taken
-      : rowFits t w r (stepFrom r cell counter) ≡ true → (o : Option ℕ) → changed (t .stops) (r .change) counter ≡ o
+      : rowFits t w r (stepFrom r cell counter) ≡ true → (o : Option ℕ) → changed (t .decrOnZero) (r .change) counter ≡ o
       → OutcomeRight t w r L (stepFrom r cell counter) (outcomeOf L (moved w (r .move) cell) o)
   unfolding outcomeOf
   taken fits none e = λ u takes. Option·none-ne-some (u .counter) (sym e ∙ takes .counter)
@@ -66,11 +66,11 @@ module _ (t : Table) (w : List ℕ) (r : Row) (L cell counter : ℕ) where
   -- both tests fit
   pub steps-on
       : symbolFits (t .alphabet) (r .symbol) (symbolOn w cell) ≡ true → counterFits (r .test) counter ≡ true
-      → (next : ℕ) (stops : Bool) (result : Outcome) → next ≡ moved w (r .move) cell → stops ≡ t .stops
-      → result ≡ outcomeOf L next (changed stops (r .change) counter) → Steps t w r L (stepFrom r cell counter) result
+      → (next : ℕ) (decrOnZero : Bool) (result : Outcome) → next ≡ moved w (r .move) cell → decrOnZero ≡ t .decrOnZero
+      → result ≡ outcomeOf L next (changed decrOnZero (r .change) counter) → Steps t w r L (stepFrom r cell counter) result
   unfolding rowFits
-  steps-on symbol test next stops result there how is = rw (is, there, how) (record {
-    right = taken (rw (eq-eqb (r .from) (r .from) refl, symbol, test) refl) (changed (t .stops) (r .change) counter) refl;
+  steps-on symbol test next decrOnZero result there how is = rw (is, there, how) (record {
+    right = taken (rw (eq-eqb (r .from) (r .from) refl, symbol, test) refl) (changed (t .decrOnZero) (r .change) counter) refl;
   })
 
   -- one of them does not

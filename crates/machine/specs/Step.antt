@@ -27,8 +27,8 @@ counterFits test counter = eqb test (min counter 1) || eqb test Form.eitherCount
 
 -- the counter changed by what the code is above or below `noChange`; below zero it is zero where it stops there, and else the row can't be taken
 unfoldable pub changed : Bool → ℕ → ℕ → Option ℕ
-changed stops code counter =
-    cond (leb Form.noChange (counter + code)) (some (counter + code - Form.noChange)) (cond stops (some 0) none)
+changed decrOnZero code counter =
+    cond (leb Form.noChange (counter + code)) (some (counter + code - Form.noChange)) (cond decrOnZero (some 0) none)
 
 unfoldable pub rowFits : Table → List ℕ → Row → Situation → Bool
 rowFits t word r s =
@@ -40,7 +40,7 @@ pub record Takes (t : Table) (word : List ℕ) (r : Row) (before after : Situati
   pub fits : rowFits t word r before ≡ Bool.true
   pub state : after .state ≡ r .to
   pub cell : after .cell ≡ moved word (r .move) (before .cell)
-  pub counter : changed (t .stops) (r .change) (before .counter) ≡ some (after .counter)
+  pub counter : changed (t .decrOnZero) (r .change) (before .counter) ≡ some (after .counter)
 
 pub record Step (t : Table) (word : List ℕ) (before after : Situation) : Type 0 where
   pub row : Row

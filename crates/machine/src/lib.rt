@@ -74,8 +74,8 @@ pub fn counter_fits(test: u8, counter: usize) -> bool
 }
 
 // A change of the counter by what the code is above or below NO_CHANGE, within a limit, on the way to a cell.
-fn changed(stops: bool, code: u8, counter: usize, cell: usize, limit: usize) -> Outcome
-    ensures { λ r. ⌜ r ≡ outcomeOf limit cell (changed stops code counter) ⌝ }
+fn changed(decr_on_zero: bool, code: u8, counter: usize, cell: usize, limit: usize) -> Outcome
+    ensures { λ r. ⌜ r ≡ outcomeOf limit cell (changed «decr_on_zero» code counter) ⌝ }
 {
     let by = wide(code);
     if NO_CHANGE <= by {
@@ -85,7 +85,7 @@ fn changed(stops: bool, code: u8, counter: usize, cell: usize, limit: usize) -> 
     if down <= counter {
         return raised(0, counter - down, cell, limit);
     }
-    if stops {
+    if decr_on_zero {
         Outcome::Goes { cell, counter: 0 }
     } else {
         Outcome::Blocked
@@ -122,8 +122,8 @@ pub fn step(
     if symbol_fits(image, row.symbol, seen) {
         if counter_fits(row.test, counter) {
             let next = head::goes(word, row.motion, cell);
-            let stops = table::stops(image);
-            return changed(stops, row.change, counter, next, limit);
+            let decr_on_zero = table::decr_on_zero(image);
+            return changed(decr_on_zero, row.change, counter, next, limit);
         }
     }
     Outcome::Blocked

@@ -170,4 +170,4 @@ pub data IsProgram : Ts → Program → Type 0 where
   program : {p q r t o v : ℕ} {ts us : Ts} {f : Order} {l : List Letter} {d : Bool} {b : Statements}
       → IsSettings ts f l d v ((w "twoc" at p) ∷ (s "(" at q) ∷ (w "string" at r) ∷ (s ")" at t) ∷ us)
       → IsBlock us o b []
-      → IsProgram ts (record { first = f; alphabet = l; stops = d; truth = v; brace = o; body = b })
+      → IsProgram ts (record { first = f; alphabet = l; decrOnZero = d; truth = v; brace = o; body = b })

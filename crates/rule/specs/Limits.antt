@@ -162,7 +162,7 @@ unfoldable mutual
 
 -- decr_on_zero breaks no limit, whichever its word is
 unfoldable pub truthFaults : Bool → ℕ → List Fault
-truthFaults stops place = []
+truthFaults decrOnZero place = []
 
 -- those of the alphabet and those of decr_on_zero, as the settings stand
 unfoldable pub inOrder : Order → List Fault → List Fault → List Fault
@@ -170,7 +170,7 @@ inOrder alphabetFirst letters truth = letters ++ truth
 inOrder decrementFirst letters truth = truth ++ letters
 
 unfoldable pub settingsFaults : Program → List Fault
-settingsFaults p = inOrder (p .first) (letterFaults [] (p .alphabet)) (truthFaults (p .stops) (p .truth))
+settingsFaults p = inOrder (p .first) (letterFaults [] (p .alphabet)) (truthFaults (p .decrOnZero) (p .truth))
 
 -- the outermost block has none open around it
 unfoldable pub faults : Program → List Fault

@@ -118,7 +118,7 @@ pub data ProgramStep (word : List ℕ) (decrOnZero : Bool) : ProgramSituation �
 -- reached by a run of the program that starts at the left end, cell 0, with counter 0, and whose counter is never above the limit
 pub data ProgramReach (p : Program) (word : List ℕ) (limit : ℕ) : ProgramSituation → Type 0 where
   begins : ProgramReach p word limit (record { left = p .body; cell = 0; counter = 0 })
-  goes : {s t : ProgramSituation} → ProgramReach p word limit s → ProgramStep word (p .stops) s t → t .counter ≤ limit → ProgramReach p word limit t
+  goes : {s t : ProgramSituation} → ProgramReach p word limit s → ProgramStep word (p .decrOnZero) s t → t .counter ≤ limit → ProgramReach p word limit t
 
 -- some run of the program within the limit comes to `accept`
 pub record ProgramAccepts (p : Program) (word : List ℕ) (limit : ℕ) : Type 0 where

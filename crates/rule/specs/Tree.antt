@@ -80,7 +80,7 @@ pub record Program : Type 0 where
   pub first : Order
   pub alphabet : List Letter
   -- decr_on_zero, and the place of its word `true` or `false`
-  pub stops : Bool
+  pub decrOnZero : Bool
   pub truth : ℕ
   pub brace : ℕ
   pub body : Statements

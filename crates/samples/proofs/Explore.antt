@@ -78,14 +78,14 @@ module _ (t : Table) (word : List ℕ) (limit : ℕ) where
 
   pub follow : (r : Row) → List·Memᴰ r (t .rows) → (x : Reached) (c : ℕ)
       → rowFits t word r (x .0) ≡ true
-      → changed (t .stops) (r .change) (x .0 .counter) ≡ some c
+      → changed (t .decrOnZero) (r .change) (x .0 .counter) ≡ some c
       → c ≤ limit
       → Reach t word limit (after r (x .0) c)
   follow r m x c fits change low =
       goes (x .1) (record { row = r; listed = m; takes = record { fits = fits; state = refl; cell = refl; counter = change } }) low
 
   abbrev step : (r : Row) → List·Memᴰ r (t .rows) → (x : Reached) (b : Bool) → rowFits t word r (x .0) ≡ b
-      → (o : Option ℕ) → changed (t .stops) (r .change) (x .0 .counter) ≡ o → List Reached
+      → (o : Option ℕ) → changed (t .decrOnZero) (r .change) (x .0 .counter) ≡ o → List Reached
   step r m x false e o f = []
   step r m x true e none f = []
   step r m x true e (some c) f =
@@ -97,7 +97,7 @@ module _ (t : Table) (word : List ℕ) (limit : ℕ) where
   abbrev steps : (x : Reached) (rs : List Row) → ((r : Row) → List·Memᴰ r rs → List·Memᴰ r (t .rows)) → List Reached
   steps x [] k = []
   steps x (r ∷ rs) k =
-      step r (k r (List·Memᴰ·head refl)) x (rowFits t word r (x .0)) refl (changed (t .stops) (r .change) (x .0 .counter)) refl
+      step r (k r (List·Memᴰ·head refl)) x (rowFits t word r (x .0)) refl (changed (t .decrOnZero) (r .change) (x .0 .counter)) refl
       ++ steps x rs (λ q m. k q (List·Memᴰ·tail m))
 
   abbrev situations : List Reached → List Situation
@@ -136,7 +136,7 @@ module _ (t : Table) (word : List ℕ) (limit : ℕ) where
   stays xs r s true (some c) = not (leb c limit) || isListed (after r s c) xs
 
   abbrev rowStays : List Situation → Situation → Row → Bool
-  rowStays xs s r = stays xs r s (rowFits t word r s) (changed (t .stops) (r .change) (s .counter))
+  rowStays xs s r = stays xs r s (rowFits t word r s) (changed (t .decrOnZero) (r .change) (s .counter))
 
   abbrev closed : List Situation → Bool
   closed xs = every (λ s. every (rowStays xs s) (t .rows)) xs
@@ -166,7 +166,7 @@ module _ (t : Table) (word : List ℕ) (limit : ℕ) where
       r
       s
       (rowFits t word r s)
-      (changed (t .stops) (r .change) (s .counter))
+      (changed (t .decrOnZero) (r .change) (s .counter))
       (u .counter)
       (every-at (rowStays xs s) (st .listed) (every-at (λ x. every (rowStays xs x) (t .rows)) (holds-all xs b h reached) h))
       (k .fits)
@@ -236,7 +236,7 @@ module _ (t : Table) (word : List ℕ) (limit : ℕ) where
   over true (some c) = ltb limit c
 
   abbrev rowOver : Situation → Row → Bool
-  rowOver s r = over (rowFits t word r s) (changed (t .stops) (r .change) (s .counter))
+  rowOver s r = over (rowFits t word r s) (changed (t .decrOnZero) (r .change) (s .counter))
 
   pub over-at : (b : Bool) (o : Option ℕ) (c : ℕ) → b ≡ true → o ≡ some c → limit < c → T (over b o)
   over-at b o c e f h = subst₂ (λ (x : Bool) (y : Option ℕ). T (over x y)) (sym e) (sym f) (lt→ltb limit c h)
@@ -253,7 +253,7 @@ module _ (t : Table) (word : List ℕ) (limit : ℕ) where
       (every-at (λ u. every (λ q. not (rowOver u q)) (t .rows)) (x .each s (p .reached)) h))
       (over-at
       (rowFits t word r s)
-      (changed (t .stops) (r .change) (s .counter))
+      (changed (t .decrOnZero) (r .change) (s .counter))
       (p .after .counter)
       (p .step .takes .fits)
       (p .step .takes .counter)
@@ -261,7 +261,7 @@ module _ (t : Table) (word : List ℕ) (limit : ℕ) where
 
   pub one-passes : (r : Row) → List·Memᴰ r (t .rows) → (s : Situation) → Reach t word limit s
       → (b : Bool) → rowFits t word r s ≡ b
-      → (o : Option ℕ) → changed (t .stops) (r .change) (s .counter) ≡ o
+      → (o : Option ℕ) → changed (t .decrOnZero) (r .change) (s .counter) ≡ o
       → T (over b o)
       → Passes t word limit
   one-passes r m s reached false e o f h = absurd h
@@ -288,7 +288,7 @@ module _ (t : Table) (word : List ℕ) (limit : ℕ) where
       reached
       (rowFits t word r s)
       refl
-      (changed (t .stops) (r .change) (s .counter))
+      (changed (t .decrOnZero) (r .change) (s .counter))
       refl)) [
         | none ↦ findRow s reached rs (λ q m. k q (List·Memᴰ·tail m))
         | some p ↦ some p

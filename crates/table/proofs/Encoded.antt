@@ -7,7 +7,7 @@ use mathlib.Core.Bool.{Bool, true, false}
 use mathlib.Core.List.{List, [], _∷_, _++_, append-nil}
 use lib.ListN.{length, take, drop}
 use lib.Dec.{eqb}
-use Rattle.table.specs.Form.{editionPlace, alphabetTag, lettersPlace, stopsTag, stopsPlace, statesTag, statesPlace, acceptingTag, acceptingPlace, acceptingBytes, rowsTag, rowsLength, bytesOf}
+use Rattle.table.specs.Form.{editionPlace, alphabetTag, lettersPlace, decrOnZeroTag, decrOnZeroPlace, statesTag, statesPlace, acceptingTag, acceptingPlace, acceptingBytes, rowsTag, rowsLength, bytesOf}
 use Rattle.table.specs.Table.{Table}
 use Rattle.table.specs.Image.{twoBytes, field, rowsBytes, flag, edition, encode}
 use Rattle.table.specs.WellFormed.{IsImage}
@@ -40,7 +40,7 @@ abbrev from4 : Table → List ℕ
 from4 t = field 4 (twoBytes (t .states)) ++ from5 t
 
 abbrev from3 : Table → List ℕ
-from3 t = field 3 (flag (t .stops) ∷ []) ++ from4 t
+from3 t = field 3 (flag (t .decrOnZero) ∷ []) ++ from4 t
 
 abbrev from2 : Table → List ℕ
 from2 t = field 2 (t .alphabet) ++ from3 t
@@ -59,8 +59,8 @@ module _ {t : Table} {image : List ℕ} (is : IsImage t image) where
   letters : lettersOf image ≡ length (t .alphabet)
   letters = omega (arith, stands-field second .many, is .inRange .fewLetters)
 
-  third : Stands image (stopsTag (lettersOf image)) 3 (flag (t .stops) ∷ []) (from4 t)
-  third = stands-next second (stopsTag (lettersOf image)) (omega (arith, letters))
+  third : Stands image (decrOnZeroTag (lettersOf image)) 3 (flag (t .decrOnZero) ∷ []) (from4 t)
+  third = stands-next second (decrOnZeroTag (lettersOf image)) (omega (arith, letters))
 
   fourth : Stands image (statesTag (lettersOf image)) 4 (twoBytes (t .states)) (from5 t)
   unfolding twoBytes
@@ -73,8 +73,8 @@ module _ {t : Table} {image : List ℕ} (is : IsImage t image) where
   sixth : Stands image (rowsTag (lettersOf image)) 6 (rowsBytes (t .rows)) []
   sixth = stands-next fifth (rowsTag (lettersOf image)) (omega (arith, is .inRange .sixteen))
 
-  stops-byte : byteAt image (stopsPlace (lettersOf image)) ≡ flag (t .stops)
-  stops-byte = stands-byte third (stopsPlace (lettersOf image)) 0 (omega arith) (omega arith)
+  flag-byte : byteAt image (decrOnZeroPlace (lettersOf image)) ≡ flag (t .decrOnZero)
+  flag-byte = stands-byte third (decrOnZeroPlace (lettersOf image)) 0 (omega arith) (omega arith)
 
   states-two : twoAt image (statesPlace (lettersOf image)) ≡ t .states
   unfolding twoBytes
@@ -97,7 +97,7 @@ module _ {t : Table} {image : List ℕ} (is : IsImage t image) where
   unfolding tableOf
   image-table = λ i. record {
     alphabet = alphabet i;
-    stops = (ap (λ (b : ℕ). eqb b 1) stops-byte ∙ of-flag (t .stops)) i;
+    decrOnZero = (ap (λ (b : ℕ). eqb b 1) flag-byte ∙ of-flag (t .decrOnZero)) i;
     states = states-two i;
     accepting = accepting i;
     rows = rows-same i;
@@ -123,7 +123,7 @@ module _ {t : Table} {image : List ℕ} (is : IsImage t image) where
   unfolding twoBytes
   image-middle = record {
     third = stands-field third;
-    flag = rw stops-byte (flag-low (t .stops));
+    flag = rw flag-byte (flag-low (t .decrOnZero));
     fourth = stands-field fourth;
     someState = rw states-two (is .inRange .someState);
     fewStates = rw states-two (is .inRange .fewStates);

@@ -84,13 +84,13 @@ unfolding encode
 encode-once t u e =
     let first = field-once 1 (edition t ∷ []) (edition u ∷ []) _ _ e in
     let alphabet = field-once 2 (t .alphabet) (u .alphabet) _ _ (first .1) in
-    let stops = field-once 3 (flag (t .stops) ∷ []) (flag (u .stops) ∷ []) _ _ (alphabet .1) in
-    let states = field-once 4 (twoBytes (t .states)) (twoBytes (u .states)) _ _ (stops .1) in
+    let decrOnZero = field-once 3 (flag (t .decrOnZero) ∷ []) (flag (u .decrOnZero) ∷ []) _ _ (alphabet .1) in
+    let states = field-once 4 (twoBytes (t .states)) (twoBytes (u .states)) _ _ (decrOnZero .1) in
     let accepting = field-once 5 (t .accepting) (u .accepting) _ _ (states .1) in
     let rows = field-once 6 (rowsBytes (t .rows)) (rowsBytes (u .rows)) [] [] (ap (λ l. l ++ []) (accepting .1)) in
     λ i. record {
       alphabet = alphabet .0 i;
-      stops = flag-once (t .stops) (u .stops) (ap (λ l. getD l 0 0) (stops .0)) i;
+      decrOnZero = flag-once (t .decrOnZero) (u .decrOnZero) (ap (λ l. getD l 0 0) (decrOnZero .0)) i;
       states = twoBytes-once (t .states) (u .states) (states .0) i;
       accepting = accepting .0 i;
       rows = rows-once (t .rows) (u .rows) (rows .0) i;

@@ -10,7 +10,7 @@ use lib.Dec.{eqb}
 use lib.Seq.{length-take-le, getD-take, getD-drop}
 use Rattle.bits.specs.Bit.{bit, Bytes}
 use Rattle.bits.proofs.Change.{bit-past}
-use Rattle.table.specs.Form.{lettersPlace, stopsPlace, statesPlace, acceptingPlace, acceptingBytes, rowsPlace, rowsLength, wide, bytesOf, rowsIn, widthFor}
+use Rattle.table.specs.Form.{lettersPlace, decrOnZeroPlace, statesPlace, acceptingPlace, acceptingBytes, rowsPlace, rowsLength, wide, bytesOf, rowsIn, widthFor}
 use Rattle.table.specs.Table.{Row}
 use Rattle.table.specs.Fields.{byteAt, twoAt, lettersOf, letterOf, widthOf, rowPlace, rowFrom, rowOf, rowCount, tableOf}
 use Rattle.table.specs.RowCode.{rowIs}
@@ -112,9 +112,9 @@ module _ (image : List ℕ) where
   unfolding tableOf
   states-inside k e = ap (λ (n : ℕ). twoAt image (statesPlace n)) e
 
-  pub stops-inside : {b : ℕ} → b ≡ byteAt image (stopsPlace (lettersOf image)) → eqb b 1 ≡ tableOf image .stops
+  pub flag-inside : {b : ℕ} → b ≡ byteAt image (decrOnZeroPlace (lettersOf image)) → eqb b 1 ≡ tableOf image .decrOnZero
   unfolding tableOf
-  stops-inside e = ap (λ (b : ℕ). eqb b 1) e
+  flag-inside e = ap (λ (b : ℕ). eqb b 1) e
 
   -- the last two bytes of a row
   pub last-two : (at n : ℕ) → n ≡ byteAt image (at + 6) * 256 + byteAt image (at + 7) → n ≡ twoAt image (at + 6)

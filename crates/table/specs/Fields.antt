@@ -12,8 +12,8 @@ use Rattle.table.specs.Form.{
   alphabetTag,
   countPlace,
   lettersPlace,
-  stopsTag,
-  stopsPlace,
+  decrOnZeroTag,
+  decrOnZeroPlace,
   statesTag,
   statesPlace,
   acceptingTag,
@@ -75,7 +75,7 @@ unfoldable pub tableOf : List ℕ → Table
 tableOf image =
     record {
       alphabet = take (lettersOf image) (drop lettersPlace image);
-      stops = eqb (byteAt image (stopsPlace (lettersOf image))) 1;
+      decrOnZero = eqb (byteAt image (decrOnZeroPlace (lettersOf image))) 1;
       states = twoAt image (statesPlace (lettersOf image));
       accepting = take acceptingBytes (drop (acceptingPlace (lettersOf image)) image);
       rows = rowsFrom image 0 (rowCount image);

@@ -54,11 +54,11 @@ countPlace = 6
 abbrev pub lettersPlace : ℕ
 lettersPlace = 7
 
-abbrev pub stopsTag : ℕ → ℕ
-stopsTag letters = letters + 7
+abbrev pub decrOnZeroTag : ℕ → ℕ
+decrOnZeroTag letters = letters + 7
 
-abbrev pub stopsPlace : ℕ → ℕ
-stopsPlace letters = letters + 10
+abbrev pub decrOnZeroPlace : ℕ → ℕ
+decrOnZeroPlace letters = letters + 10
 
 abbrev pub statesTag : ℕ → ℕ
 statesTag letters = letters + 11

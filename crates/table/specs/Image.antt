@@ -32,5 +32,5 @@ unfoldable pub encode : Table → List ℕ
 encode T =
     field 1 (edition T ∷ [])
     ++ (field 2 (T .alphabet)
-    ++ (field 3 (flag (T .stops) ∷ [])
+    ++ (field 3 (flag (T .decrOnZero) ∷ [])
     ++ (field 4 (twoBytes (T .states)) ++ (field 5 (T .accepting) ++ field 6 (rowsBytes (T .rows))))))

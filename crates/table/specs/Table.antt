@@ -19,7 +19,7 @@ pub record Table : Type 0 where
   -- the letters as listed
   pub alphabet : List ℕ
   -- whether a lowering of the counter below zero stops at zero (decr_on_zero)
-  pub stops : Bool
+  pub decrOnZero : Bool
   pub states : ℕ
   -- 16 bytes: state s accepts if bit s is set
   pub accepting : List ℕ

@@ -37,9 +37,9 @@ pub const COUNT_PLACE: usize = 6;
 
 pub const LETTERS_PLACE: usize = 7;
 
-pub const STOPS_TAG: usize = 7;
+pub const DECR_ON_ZERO_TAG: usize = 7;
 
-pub const STOPS_PLACE: usize = 10;
+pub const DECR_ON_ZERO_PLACE: usize = 10;
 
 pub const STATES_TAG: usize = 11;
 

@@ -74,11 +74,11 @@ pub fn letter_at(image: &[u8], c: usize) -> u8
     }
 }
 
-// Whether a lowering of the counter below zero stops at zero.
-pub fn stops(image: &[u8]) -> bool
-    ensures { λ r. ⌜ r ≡ tableOf (now (image .entry)) .stops ⌝ }
+// Whether decr_on_zero is true: a lowering of the counter below zero leaves it at zero.
+pub fn decr_on_zero(image: &[u8]) -> bool
+    ensures { λ r. ⌜ r ≡ tableOf (now (image .entry)) .decrOnZero ⌝ }
 {
-    bits::byte_at(image, letters(image) as usize + form::STOPS_PLACE) == 1
+    bits::byte_at(image, letters(image) as usize + form::DECR_ON_ZERO_PLACE) == 1
 }
 
 // How many states there are.

@@ -67,7 +67,7 @@ listed (more {b = b} d) right =
 alphabetic : {ts us : Ts} {ls : List Letter} → IsAlphabet ts ls us → Letters ts → Alphabetic ls
 alphabetic (alphabet d) right = listed d (right .1 .1 .1)
 
-settings-letters : {ts us : Ts} {first : _} {ls : List Letter} {stops truth : _} → IsSettings ts first ls stops truth us → Letters ts → Alphabetic ls
+settings-letters : {ts us : Ts} {first : _} {ls : List Letter} {decrOnZero truth : _} → IsSettings ts first ls decrOnZero truth us → Letters ts → Alphabetic ls
 settings-letters (alphabetFirst a d) right = alphabetic a right
 settings-letters (decrementFirst isTrue a) right = alphabetic a (right .1 .1 .1 .1)
 settings-letters (decrementFirst isFalse a) right = alphabetic a (right .1 .1 .1 .1)

@@ -69,7 +69,7 @@ pub record Settling (text before after : List ℕ) (us : Ts) (l : List Letter) (
   pub here : Here text (r .at) us
   pub bytes : after ≡ over before lettersPlace (letterBytes l)
   pub count : r .count ≡ length l
-  pub stops : r .stops ≡ d
+  pub decrOnZero : r .«decr_on_zero» ≡ d
 
 pub record Settles (text before after : List ℕ) (r : Settled) : Type 0 where
   pub settles : {ts us : Ts} {l : List Letter} {d : Bool} → SettingsAt text before ts us l d → Settling text before after us l d r
@@ -90,7 +90,7 @@ pub record Emittable (text out : List ℕ) (states rows : ℕ) : Type 0 where
 -- what its header says
 abbrev pub sheetOf : List ℕ → ℕ → ℕ → Program → Sheet
 sheetOf old states rows p =
-    record { old = old; alphabet = letterBytes (p .alphabet); stops = p .stops; states = states; count = rows }
+    record { old = old; alphabet = letterBytes (p .alphabet); decrOnZero = p .decrOnZero; states = states; count = rows }
 
 -- the header is written, and what is left of the outermost block is to be emitted from state 0 on
 pub record Beginning (text before after : List ℕ) (states rows : ℕ) (p : Program) (r : Place) : Type 0 where

@@ -15,7 +15,7 @@ use Rattle.construction.specs.Compile.{imageRoom}
 pub record Sheet : Type 0 where
   pub old : List ℕ
   pub alphabet : List ℕ
-  pub stops : Bool
+  pub decrOnZero : Bool
   pub states : ℕ
   pub count : ℕ
 
@@ -24,7 +24,7 @@ unfoldable pub front : Sheet → List ℕ
 front h =
     field 1 (firstEdition ∷ [])
     ++ (field 2 (h .alphabet)
-    ++ (field 3 (flag (h .stops) ∷ [])
+    ++ (field 3 (flag (h .decrOnZero) ∷ [])
     ++ (field 4 (twoBytes (h .states)) ++ (5 ∷ twoBytes acceptingBytes))))
 
 -- the accept bytes as they are so far
@@ -79,11 +79,11 @@ pub record Marks (before after : List ℕ) (state : ℕ) : Type 0 where
   pub marks : {h : Sheet} {accepting : List ℕ} {rows : List Row} → Holds h accepting rows before → Holds h (accepting ++ (state ∷ [])) rows after
 
 -- the header is written around the letters, which stand already
-pub record Heads (before after : List ℕ) (count : ℕ) (stops : Bool) (states rows : ℕ) : Type 0 where
+pub record Heads (before after : List ℕ) (count : ℕ) (decrOnZero : Bool) (states rows : ℕ) : Type 0 where
   pub heads : (old alphabet : List ℕ)
       → before ≡ over old lettersPlace alphabet
       → count ≡ length alphabet
-      → Holds (record { old = old; alphabet = alphabet; stops = stops; states = states; count = rows }) [] [] after
+      → Holds (record { old = old; alphabet = alphabet; decrOnZero = decrOnZero; states = states; count = rows }) [] [] after
 
 -- a letter's index in the alphabet of the image, and how many letters that has
 pub record Indexes (out : List ℕ) (byte index : ℕ) : Type 0 where

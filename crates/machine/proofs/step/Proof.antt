@@ -18,8 +18,8 @@ counter-fits-requires c κs = search needs
 goes-requires : tie.Need-goes-requires
 goes-requires c κs = search needs
 
-stops-requires : tie.Need-stops-requires
-stops-requires c κs = search needs
+decr-on-zero-requires : tie.Need-decr-on-zero-requires
+decr-on-zero-requires c κs = search needs
 
 changed-requires : tie.Need-changed-requires
 changed-requires c κs = search needs
@@ -30,7 +30,7 @@ returns c =
     steps-on _ _ _ _ _ _
     (sym (ap (symbolFits _ _) (a .before .before .seen .ensures)) ∙ sym (a .before .symbol-fits .ensures) ∙ a .if1 .taken)
     (sym (c .before .before .before .before .counter-fits .ensures) ∙ c .before .before .before .if2 .taken)
-    _ _ _ (c .before .before .goes .ensures) (c .before .stops .ensures) (c .changed .ensures)
+    _ _ _ (c .before .before .goes .ensures) (c .before .decr-on-zero .ensures) (c .changed .ensures)
 
 returns-2 : tie.Need-returns-2
 returns-2 c =
@@ -52,7 +52,7 @@ step-spec =
     symbol-fits-requires
     counter-fits-requires
     goes-requires
-    stops-requires
+    decr-on-zero-requires
     changed-requires
     returns
     returns-2

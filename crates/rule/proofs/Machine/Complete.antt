@@ -268,7 +268,7 @@ settings-eats : {p : ℕ} {ts us : Ts} {f : Order} {l : List Letter} {d : Bool} 
     (state
     (Machine.body ∷ st)
     (settingsFar f l d p a)
-    (λ ((o, b), vs). k (record { first = f; alphabet = l; stops = d; truth = p; brace = o; body = b }, vs)))
+    (λ ((o, b), vs). k (record { first = f; alphabet = l; decrOnZero = d; truth = p; brace = o; body = b }, vs)))
     us
 unfolding eat settingsFar
 settings-eats (Grammar.alphabetFirst (Grammar.alphabet l) d) st a k = letters-eats l is _ _ _ ∙ decrement-eats d _ _ _

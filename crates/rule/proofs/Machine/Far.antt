@@ -145,4 +145,4 @@ settingsFar decrementFirst l d p s = lettersFar l (truthFar d p s)
 unfoldable pub programFar : Program → Far → Far
 unfolding settingsFar statementsFar
 programFar p s =
-    statementsFar 1 (p .body) (notes (leb 16 0) 8 (p .brace) (settingsFar (p .first) (p .alphabet) (p .stops) (p .truth) s))
+    statementsFar 1 (p .body) (notes (leb 16 0) 8 (p .brace) (settingsFar (p .first) (p .alphabet) (p .decrOnZero) (p .truth) s))

@@ -35,7 +35,7 @@ Closed ts b us = (q : ℕ) × IsStatements ts b ((s "}" at q) ∷ us)
 -- the tokens of a symbol, what they give, and the tokens after it. What may follow something is said by what becomes of that
 abbrev Means : (x : Expected) → Ts → Value x → Ts → Type 0
 Means (Machine.exact m) ts v us = Is (spell m) ts us
-Means Machine.program ts v us = (ms : Ts) × IsSettings ts (v .first) (v .alphabet) (v .stops) (v .truth) ms × IsBody ms (v .brace) (v .body) us
+Means Machine.program ts v us = (ms : Ts) × IsSettings ts (v .first) (v .alphabet) (v .decrOnZero) (v .truth) ms × IsBody ms (v .brace) (v .body) us
 Means Machine.alphabet ts l us = IsAlphabet ts l us
 Means Machine.decrement ts v us = IsDecrement ts (v .0) (v .1) us
 Means Machine.letters ts l us = (q : ℕ) × IsLetters ts l ((s "]" at q) ∷ us)
@@ -373,7 +373,7 @@ program-of : {ts us vs : Ts} {f : Order} {l : List Letter} {d : Bool} {r o : ℕ
     → IsSettings ts f l d r us
     → IsBody us o b vs
     → Over vs
-    → IsProgram ts (record { first = f; alphabet = l; stops = d; truth = r; brace = o; body = b })
+    → IsProgram ts (record { first = f; alphabet = l; decrOnZero = d; truth = r; brace = o; body = b })
 program-of h (body b) over = Grammar.program h b
 
 -- what the machine takes to its end is a program

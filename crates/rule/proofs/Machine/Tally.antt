@@ -242,7 +242,7 @@ unfolding programFar programStates programRows faults settingsFaults
 program-is x =
     ap
     (λ (z : Far). statementsFar 1 (x .body) (notes (leb 16 0) 8 (x .brace) z))
-    (settings-is (x .first) (x .alphabet) (x .stops) (x .truth) _)
+    (settings-is (x .first) (x .alphabet) (x .decrOnZero) (x .truth) _)
     ∙ block-is (x .body) (statements-is (x .body)) 0 (x .brace) _
     ∙ same-far
     refl

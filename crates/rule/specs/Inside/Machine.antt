@@ -207,14 +207,14 @@ module _ (t : Totals) (p : ℕ) where
       t
       (exact Fixed.equals ∷ exact Fixed.openList ∷ letters ∷ exact Fixed.semicolon ∷ decrement ∷ body ∷ [])
       (λ st (_, (_, (l, (_, ((d, r), ((o, b), vs)))))).
-      (record { first = Tree.alphabetFirst; alphabet = l; stops = d; truth = r; brace = o; body = b }, vs)))
+      (record { first = Tree.alphabetFirst; alphabet = l; decrOnZero = d; truth = r; brace = o; body = b }, vs)))
       ∷ on
       Fixed.decrOnZero
       (free
       t
       (exact Fixed.equals ∷ truth ∷ alphabet ∷ body ∷ [])
       (λ st (_, ((d, r), (l, ((o, b), vs)))).
-      (record { first = Tree.decrementFirst; alphabet = l; stops = d; truth = r; brace = o; body = b }, vs)))
+      (record { first = Tree.decrementFirst; alphabet = l; decrOnZero = d; truth = r; brace = o; body = b }, vs)))
       ∷ []
   choices alphabet =
       on

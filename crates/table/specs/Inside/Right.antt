@@ -7,7 +7,7 @@ use mathlib.Core.List.{List}
 use lib.ListN.{length}
 use lib.Dec.{T}
 use Rattle.bits.specs.Byte.{isLetter}
-use Rattle.table.specs.Form.{editionPlace, alphabetTag, stopsTag, stopsPlace, statesTag, statesPlace, acceptingTag, acceptingBytes, rowsTag, bytesOf}
+use Rattle.table.specs.Form.{editionPlace, alphabetTag, decrOnZeroTag, decrOnZeroPlace, statesTag, statesPlace, acceptingTag, acceptingBytes, rowsTag, bytesOf}
 use Rattle.table.specs.Image.{edition}
 use Rattle.table.specs.Fields.{byteAt, twoAt, lettersOf, letterOf, widthOf, rowPlace, rowCount, tableOf}
 
@@ -31,8 +31,8 @@ pub record HeadRight (image : List ℕ) : Type 0 where
 
 -- tags 3 and 4 are right
 pub record MiddleRight (image : List ℕ) : Type 0 where
-  pub third : FieldAt image (stopsTag (lettersOf image)) 3 1
-  pub flag : byteAt image (stopsPlace (lettersOf image)) ≤ 1
+  pub third : FieldAt image (decrOnZeroTag (lettersOf image)) 3 1
+  pub flag : byteAt image (decrOnZeroPlace (lettersOf image)) ≤ 1
   pub fourth : FieldAt image (statesTag (lettersOf image)) 4 2
   pub someState : 1 ≤ twoAt image (statesPlace (lettersOf image))
   pub fewStates : twoAt image (statesPlace (lettersOf image)) ≤ 128

@@ -1,8 +1,8 @@
 -- The byte of tag 3. Assumes nothing.
-use Rattle.table.proofs.Reading.{stops-inside}
+use Rattle.table.proofs.Reading.{flag-inside}
 use borrow.Author.Needs.{needs}
-use Rattle.table.proofs.stops.Statement.{statement}
-use Rattle.table.proofs.stops.Tie as tie
+use Rattle.table.proofs.decr_on_zero.Statement.{statement}
+use Rattle.table.proofs.decr_on_zero.Tie as tie
 
 letters-requires : tie.Need-letters-requires
 letters-requires c κs = search needs
@@ -17,8 +17,8 @@ byte-at-requires : tie.Need-byte-at-requires
 byte-at-requires c κs = search needs
 
 returns : tie.Need-returns
-returns c = stops-inside _ (rw (c .before .letters .ensures) at (c .byte-at .ensures))
+returns c = flag-inside _ (rw (c .before .letters .ensures) at (c .byte-at .ensures))
 
-pub stops-spec : {M : Type 1} → statement M
-stops-spec =
+pub decr-on-zero-spec : {M : Type 1} → statement M
+decr-on-zero-spec =
     tie.close (tie.spec letters-requires cast-byte-at add-byte-at byte-at-requires returns)
