@@ -310,15 +310,15 @@ fn main() {
     }
 
     // what a reader must believe, and what only functions say of each other, stand apart; the definitions of `whole` and `samples`
-    // are reached by theorems
+    // are reached by theorems, and the form of an image stands whole in one file
     for (path, file) in files.iter().filter(|(path, _)| path.contains("/specs/")) {
         let inside = path.contains("/specs/Inside");
-        let by_theorems = path.starts_with("whole/") || path.starts_with("samples/");
+        let other_reasons = path.starts_with("whole/") || path.starts_with("samples/") || path == "table/specs/Form.antt";
         for name in file.words.keys().filter(|name| !name.is_empty()) {
             cases += 1;
             match (inside, reached.contains(&(path.clone(), name.clone()))) {
                 (true, true) => faults.push(format!("{path}: {name} stands inside, and a public promise reaches it")),
-                (false, false) if !by_theorems => faults.push(format!("{path}: {name} is reached by no public promise, and stands not inside")),
+                (false, false) if !other_reasons => faults.push(format!("{path}: {name} is reached by no public promise, and stands not inside")),
                 _ => {}
             }
         }
