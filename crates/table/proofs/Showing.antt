@@ -26,13 +26,6 @@ pub range-next : (range : Range) (j : ℕ) → placeIn range (suc j) ≡ placeIn
 unfolding placeIn
 range-next range j = refl
 
--- the range that a source shows, by its parts
-pub shown-range
-    : (source : Source) (rows : List ℕ) (state : ℕ) {first many apart : ℕ} → first ≡ rowsPlace (lettersOf rows) → many ≡ rowCount rows → apart ≡ wide (widthOf rows)
-    → _≡_ {A = Range} (record { first = first; many = many; apart = apart }) (rangeOf source rows state)
-unfolding rangeOf
-shown-range Image rows state is is′ is″ = λ i. record { first = is i; many = is′ i; apart = is″ i }
-
 module _ (image : List ℕ) (state : ℕ) where
   image-place : (j : ℕ) → placeIn (rangeOf Image image state) j ≡ rowPlace image j
   unfolding rangeOf placeIn
@@ -63,3 +56,10 @@ module _ (image : List ℕ) (state : ℕ) where
 -- a well-formed image is a source of its table's rows
 pub image-sources : {t : Table} {image : List ℕ} → IsImage t image → Sources (tableOf image) Image image
 image-sources {image = image} is = record { shows = λ state low. image-shows image state (le-of-eq (sym (image-tail is .end))) }
+
+-- the range that a source shows, by its parts
+pub shown-range
+    : (source : Source) (rows : List ℕ) (state : ℕ) {first many apart : ℕ} → first ≡ rowsPlace (lettersOf rows) → many ≡ rowCount rows → apart ≡ wide (widthOf rows)
+    → _≡_ {A = Range} (record { first = first; many = many; apart = apart }) (rangeOf source rows state)
+unfolding rangeOf
+shown-range Image rows state is is′ is″ = λ i. record { first = is i; many = is′ i; apart = is″ i }
