@@ -1,12 +1,9 @@
 -- Where a search finds the rows that leave a state. A source is bytes that hold rows, and says for each state from which place on they
 -- stand, how many, and how far apart. The search knows nothing else of it.
-use Prim.Native.Nat.{ℕ, zero, suc, _+_, _≤_, _<_}
-use mathlib.Core.Path.{_≡_}
-use mathlib.Core.List.{List, List·Memᴰ}
-use lib.ListN.{length}
+use Prim.Native.Nat.{ℕ}
+use mathlib.Core.List.{List}
 use Rattle.table.specs.Form.{rowsPlace, wide}
-use Rattle.table.specs.Table.{Row, Table}
-use Rattle.table.specs.Fields.{lettersOf, widthOf, rowFrom, rowCount}
+use Rattle.table.specs.Fields.{lettersOf, widthOf, rowCount}
 use Rattle.table.specs.declared.source.Range.{Range}
 use Rattle.table.specs.declared.source.Source.{Source}
 use Rattle.table.specs.declared.source.Source.the-variants.{Image}
