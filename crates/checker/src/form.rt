@@ -1,13 +1,14 @@
 // Whether bytes are a well-formed image: a question for each part of it.
+use fields::accepts;
+use fields::letter_at;
+use fields::letter_count;
+use fields::row_count;
+use fields::rows_bytes;
+use fields::state_count;
+use fields::two_at;
+use rows::row_at;
 use table::Row;
-use table::accepts;
 use table::form;
-use table::letter_at;
-use table::letter_count;
-use table::row_at;
-use table::row_count;
-use table::rows_bytes;
-use table::state_count;
 ghost use mathlib.Core.Path.{_≡_};
 ghost use Prim.Native.Nat.{ℕ, _+_, _^_, _≤_, _<_};
 ghost use lib.ListN.{length};
@@ -21,13 +22,10 @@ ghost use Rattle.table.specs.WellFormed.{SymbolCode, RowInRange, WellFormed};
 
 // Whether a field with this tag and this length starts here.
 fn field_at(image: &[u8], at: usize, tag: u8, many: usize) -> bool
-    requires { ⌜ at + 2 < 2 ^ 64 ⌝ }
+    requires { ⌜ at + 1 < 2 ^ 64 ⌝ }
     ensures { λ r. ⌜ Tells r (FieldAt (now (image .entry)) at tag many) ⌝ }
 {
-    let high = at + 1;
-    bits::byte_at(image, at) == tag
-        && (bits::byte_at(image, high) as usize) * 256 + bits::byte_at(image, high + 1) as usize
-            == many
+    bits::byte_at(image, at) == tag && two_at(image, at + 1) == many
 }
 
 // Tags 1 and 2: edition 1, and 1 to 16 letters.

@@ -41,7 +41,7 @@ fn accepts_in(image: &[u8], marks: &[u8], state: usize) -> bool
     requires { ⌜ (state < 128) × (length (now marks) ≡ markBytes) ⌝ }
     ensures { λ r. ⌜ Tells r (AcceptsIn (tableOf (now (image .entry))) (now (marks .entry)) state) ⌝ }
 {
-    if table::accepts(image, state) != 1 {
+    if fields::accepts(image, state) != 1 {
         return false;
     }
     let at = state * 256;

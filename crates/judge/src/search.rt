@@ -7,7 +7,7 @@ use cells::Symbol;
 use machine::Outcome;
 use table::source::Range;
 use table::source::Source;
-use table::source::rows_of;
+use rows::rows_of;
 ghost use mathlib.Core.Path.{_≡_};
 ghost use mathlib.Core.Bool.{_&&_};
 ghost use Rattle.table.specs.Fields.{tableOf};
@@ -45,7 +45,7 @@ fn follow(
     requires { ⌜ RowLeaves (tableOf (now image)) (now rows) (now word) limit (now marks) over i range j at (symbolIs seen) ⌝ }
     ensures { λ b. ⌜ RowFollowed (tableOf (now (image .entry))) (now (rows .entry)) (now (word .entry)) limit (now (marks .entry)) (now (marks .exit)) b i range j ⌝ }
 {
-    let row = table::row_here(rows, at);
+    let row = rows::row_here(rows, at);
     if !suits(image, row.symbol, row.test, seen, i % 32) {
         return over;
     }
@@ -79,7 +79,7 @@ fn visit(
     requires { ⌜ RowHere (tableOf (now image)) (now rows) (now word) limit (now marks) over i range j at (symbolIs seen) ⌝ }
     ensures { λ b. ⌜ RowFollowed (tableOf (now (image .entry))) (now (rows .entry)) (now (word .entry)) limit (now (marks .entry)) (now (marks .exit)) b i range j ⌝ }
 {
-    if table::leaves(rows, at, i / 32 / 64) {
+    if rows::leaves(rows, at, i / 32 / 64) {
         return follow(
             image,
             rows,

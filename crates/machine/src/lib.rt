@@ -36,13 +36,13 @@ fn letter_fits(image: &[u8], code: u8, b: u8) -> bool
     ensures { λ r. ⌜ r ≡ (ltb code (length (tableOf (now (image .entry)) .alphabet)) && eqb (getD (tableOf (now (image .entry)) .alphabet) code 0) b) ⌝ }
 {
     let at = wide(code);
-    if table::letter_count(image) <= at {
+    if fields::letter_count(image) <= at {
         return false;
     }
     if image.len() <= at + form::LETTERS_PLACE {
         return false;
     }
-    table::letter_at(image, at) == b
+    fields::letter_at(image, at) == b
 }
 
 // Whether a row's symbol is what stands on a cell.
@@ -122,7 +122,7 @@ pub fn step(
     if symbol_fits(image, row.symbol, seen) {
         if counter_fits(row.test, counter) {
             let next = head::goes(word, row.motion, cell);
-            let decr_on_zero = table::decr_on_zero(image);
+            let decr_on_zero = fields::decr_on_zero(image);
             return changed(decr_on_zero, row.change, counter, next, limit);
         }
     }

@@ -18,9 +18,9 @@ fn in_alphabet(image: &[u8], b: u8) -> bool
     requires { ⌜ length (tableOf (now image) .alphabet) ≡ lettersOf (now image) ⌝ }
     ensures { λ r. ⌜ Tells r (List·Memᴰ b (tableOf (now (image .entry)) .alphabet)) ⌝ }
 {
-    let many = table::letter_count(image);
+    let many = fields::letter_count(image);
     for c in 0..many {
-        if table::letter_at(image, c) == b {
+        if fields::letter_at(image, c) == b {
             return true;
         }
     }

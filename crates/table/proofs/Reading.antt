@@ -1,6 +1,6 @@
 -- What the readers of an image read: the fields, a byte past the end, and a row.
 use Prim.Native.Nat.{ℕ, _+_, _*_, _/_, _%_, _^_, _≤_, _<_}
-use native.Mathlib.Nat.{add-comm, add-assoc}
+use native.Mathlib.Nat.{add-comm}
 use native.Mathlib.Decide.{decLt}
 use native.Mathlib.Omega.{arith}
 use mathlib.Core.Path.{_≡_, refl, sym, ap, _∙_}
@@ -72,9 +72,9 @@ module _ (image : List ℕ) where
       let to : twoAt image (at + 6) ≡ 0 = omega (arith, zero 6, byte-past (at + 6 + 1) (omega arith)) in
       λ j. record { from = from j; symbol = zero 2 j; test = zero 3 j; move = zero 4 j; change = zero 5 j; to = to j }
 
-  -- a two-byte number whose low byte is past the end
-  pub two-past : (at high n : ℕ) → length image ≤ at + 1 → high ≡ byteAt image at → n ≡ high * 256 + 0 → n ≡ twoAt image at
-  two-past at high n past is told = omega (arith, is, told, byte-past (at + 1) past)
+  -- a two-byte number past the end
+  pub two-past : (at : ℕ) → length image ≤ at → 0 ≡ twoAt image at
+  two-past at past = omega (arith, byte-past at past, byte-past (at + 1) (omega arith))
 
   -- the state that a row leaves
   pub from-here : (at : ℕ) → twoAt image at ≡ rowFrom image at .from
@@ -115,10 +115,6 @@ module _ (image : List ℕ) where
   pub flag-inside : {b : ℕ} → b ≡ byteAt image (decrOnZeroPlace (lettersOf image)) → eqb b 1 ≡ tableOf image .decrOnZero
   unfolding tableOf
   flag-inside e = ap (λ (b : ℕ). eqb b 1) e
-
-  -- the last two bytes of a row
-  pub last-two : (at n : ℕ) → n ≡ byteAt image (at + 6) * 256 + byteAt image (at + 7) → n ≡ twoAt image (at + 6)
-  last-two at n e = e ∙ ap (λ (k : ℕ). byteAt image (at + 6) * 256 + byteAt image k) (sym (add-assoc at 6 1))
 
   -- a row of the code whose numbers stand here
   pub row-is

@@ -21,8 +21,11 @@ enum-known-states c = search needs
 
 emit-requires : tie.Need-emit-requires
 emit-requires c κs =
-    emittable-as-read _ _ (c .before .before .before .before .before .before .if1 .left) (c .before .before .before .before .before .if2 .left)
-    (rw (c .before .before .states .given .1) at (c .before .before .before .before .read .ensures))
+    let past-read = c .before .before .before .before in
+    let past-if2 = past-read .before in
+    let past-if1 = past-if2 .before in
+    emittable-as-read _ _ (past-if1 .if1 .left) (past-if2 .if2 .left)
+    (rw (c .before .before .states .given .1) at (past-read .read .ensures))
 
 returns-3 : tie.Need-returns-3
 returns-3 c =
@@ -34,8 +37,12 @@ same-length c = search needs
 
 returns-4 : tie.Need-returns-4
 returns-4 c =
-    compiled-as-read _ _ (c .before .before .before .before .before .before .before .before .before .if1 .left) (c .before .before .before .before .before .before .before .before .if2 .left)
-    (rw (c .before .before .before .before .before .states .given .1) at (c .before .before .before .before .before .before .before .read .ensures))
+    let past-states = c .before .before .before .before .before in
+    let past-read = past-states .before .before in
+    let past-if2 = past-read .before in
+    let past-if1 = past-if2 .before in
+    compiled-as-read _ _ (past-if1 .if1 .left) (past-if2 .if2 .left)
+    (rw (past-states .states .given .1) at (past-read .read .ensures))
     (c .before .before .emit .ensures)
 
 pub compile-spec : {M : Type 1} → statement M

@@ -47,7 +47,9 @@ returns-2 c = search needs
 
 -- src/lib.rt:37:9
 add-n : tie.Need-add-n Inv-loop μ-loop
-add-n c = omega (arith, rw (c .before .before .some .given .1) at (c .before .before .before .before .before .before .read-some .ensures))
+add-n c =
+    let past-read-some = c .before .before .before .before .before .before in
+    omega (arith, rw (c .before .before .some .given .1) at (past-read-some .read-some .ensures))
 
 -- src/lib.rt:29:5
 loop-less : tie.Need-loop-less Inv-loop μ-loop
@@ -55,7 +57,9 @@ loop-less c = search needs
 
 -- src/lib.rt:29:5
 loop-again : tie.Need-loop-again Inv-loop μ-loop
-loop-again c = (search needs, omega (arith, rw (c .before .before .some .given .1) at (c .before .before .before .before .before .before .read-some .ensures)))
+loop-again c =
+    let past-read-some = c .before .before .before .before .before .before in
+    (search needs, omega (arith, rw (c .before .before .some .given .1) at (past-read-some .read-some .ensures)))
 
 -- src/lib.rt:25:1
 same-length-3 : tie.Need-same-length-3 Inv-loop μ-loop

@@ -12,7 +12,10 @@ clear-requires : tie.Need-clear-requires
 clear-requires c κs = search needs
 
 search-requires : tie.Need-search-requires
-search-requires c κs = cleared-unmarked (c .before .before .before .before .before .before .before .before .before .pre) (c .before .before .before .clear .ensures)
+search-requires c κs =
+    let past-clear = c .before .before .before in
+    let start = past-clear .before .before .before .before .before .before in
+    cleared-unmarked (start .pre) (past-clear .clear .ensures)
 
 accepted-requires : tie.Need-accepted-requires
 accepted-requires c κs = search needs
@@ -30,15 +33,20 @@ verdict-number-requires : tie.Need-verdict-number-requires
 verdict-number-requires c κs = search needs
 
 mul-result : tie.Need-mul-result
-mul-result c = omega (arith, c .verdict-number .ensures, verdict-low (verdictOf (c .before .before .before .accepted .result) (c .before .before .before .before .before .before .before .search .result)))
+mul-result c =
+    let past-accepted = c .before .before .before in
+    let past-search = past-accepted .before .before .before .before in
+    omega (arith, c .verdict-number .ensures, verdict-low (verdictOf (past-accepted .accepted .result) (past-search .search .result)))
 
 add-result : tie.Need-add-result
 add-result c =
+    let past-accepted = c .before .before .before in
+    let past-search = past-accepted .before .before .before .before in
     omega (
       arith,
       c .verdict-number .ensures,
-      verdict-low (verdictOf (c .before .before .before .accepted .result) (c .before .before .before .before .before .before .before .search .result)),
-      count-low (c .before .before .before .before .before .before .before .search .ensures) (c .before .count-ones .ensures),
+      verdict-low (verdictOf (past-accepted .accepted .result) (past-search .search .result)),
+      count-low (past-search .search .ensures) (c .before .count-ones .ensures),
     )
 
 same-length : tie.Need-same-length
@@ -46,8 +54,11 @@ same-length c = search needs
 
 returns : tie.Need-returns
 returns c =
-    found-decided (c .before .before .before .before .before .before .before .search .ensures) (c .before .before .before .accepted .ensures) (c .before .count-ones .ensures)
-    (λ i. c .before .before .before .before .before .slice-known3 .given i .fits) (c .verdict-number .ensures)
+    let past-accepted = c .before .before .before in
+    let past-slice-known3 = past-accepted .before .before in
+    let past-search = past-slice-known3 .before .before in
+    found-decided (past-search .search .ensures) (past-accepted .accepted .ensures) (c .before .count-ones .ensures)
+    (λ i. past-slice-known3 .slice-known3 .given i .fits) (c .verdict-number .ensures)
 
 pub decide-spec : {M : Type 1} → statement M
 decide-spec =

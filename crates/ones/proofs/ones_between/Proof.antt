@@ -26,11 +26,9 @@ loop-holds c = (omega arith, omega arith, ones-none _ _)
 -- the sum with the next byte's ones
 next
     : (c : tie.After-shared-slice-known2 Inv-loop μ-loop)
-    → OnesBetween
-    (c .before .before .before .before .before .before .args .m .now)
-    (c .before .before .before .before .before .before .args .from)
-    (c .before .before .loop .i + 1)
-    (c .before .before .loop .sum + ones (getD (c .before .before .before .before .before .before .args .m .now) (c .before .before .loop .i) 0))
+    → let past-loop = c .before .before in
+    let start = past-loop .before .before .before .before in
+    OnesBetween (start .args .m .now) (start .args .from) (past-loop .loop .i + 1) (past-loop .loop .sum + ones (getD (start .args .m .now) (past-loop .loop .i) 0))
 next c = ones-more (c .shared-slice-known2 .given (c .before .before .loop .i) .fits) (c .before .before .loop .inv .2)
 
 shared-slice-read-sum : tie.Need-shared-slice-read-sum Inv-loop μ-loop

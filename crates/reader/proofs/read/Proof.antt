@@ -20,21 +20,37 @@ enum-known-counts c = search needs
 
 returns-2 : tie.Need-returns-2
 returns-2 c =
-    let outcome-is = c .before .before .before .before .before .program-of .ensures ∙ ap outcomeOf (c .before .before .before .counts .given .1) in
-    too-many-states (c .before .before .before .before .before .before .before .before .args .text .now) (c .before .before .before .before .before .before .if1 .left) outcome-is (c .if2 .taken)
+    let past-counts = c .before .before .before in
+    let past-program-of = past-counts .before .before in
+    let past-if1 = past-program-of .before in
+    let start = past-if1 .before .before in
+    let outcome-is = past-program-of .program-of .ensures ∙ ap outcomeOf (past-counts .counts .given .1) in
+    too-many-states (start .args .text .now) (past-if1 .if1 .left) outcome-is (c .if2 .taken)
 
 returns-3 : tie.Need-returns-3
 returns-3 c =
-    let outcome-is = c .before .before .before .before .before .before .before .program-of .ensures ∙ ap outcomeOf (c .before .before .before .before .before .counts .given .1) in
-    too-many-rows (c .before .before .before .before .before .before .before .before .before .before .args .text .now) (c .before .before .before .before .before .before .before .before .if1 .left) outcome-is (c .before .before .if2 .left) (c .if3 .taken)
+    let past-counts = c .before .before .before .before .before in
+    let past-program-of = past-counts .before .before in
+    let past-if1 = past-program-of .before in
+    let start = past-if1 .before .before in
+    let outcome-is = past-program-of .program-of .ensures ∙ ap outcomeOf (past-counts .counts .given .1) in
+    too-many-rows (start .args .text .now) (past-if1 .if1 .left) outcome-is (c .before .before .if2 .left) (c .if3 .taken)
 
 returns-4 : tie.Need-returns-4
-returns-4 c = faulty (c .before .before .before .before .before .before .args .text .now) (c .before .before .before .before .if1 .left) (c .before .before .before .program-of .ensures ∙ ap outcomeOf (c .before .refusal .given .1))
+returns-4 c =
+    let past-program-of = c .before .before .before in
+    let past-if1 = past-program-of .before in
+    let start = past-if1 .before .before in
+    faulty (start .args .text .now) (past-if1 .if1 .left) (past-program-of .program-of .ensures ∙ ap outcomeOf (c .before .refusal .given .1))
 
 returns-5 : tie.Need-returns-5
 returns-5 c =
-    let outcome-is = c .before .before .before .before .before .before .before .program-of .ensures ∙ ap outcomeOf (c .before .before .before .before .before .counts .given .1) in
-    all-taken (c .before .before .before .before .before .before .before .before .before .before .args .text .now) (c .before .before .before .before .before .before .before .before .if1 .left) outcome-is (c .before .before .if2 .left) (c .if3 .left)
+    let past-counts = c .before .before .before .before .before in
+    let past-program-of = past-counts .before .before in
+    let past-if1 = past-program-of .before in
+    let start = past-if1 .before .before in
+    let outcome-is = past-program-of .program-of .ensures ∙ ap outcomeOf (past-counts .counts .given .1) in
+    all-taken (start .args .text .now) (past-if1 .if1 .left) outcome-is (c .before .before .if2 .left) (c .if3 .left)
 
 pub read-spec : {M : Type 1} → statement M
 read-spec =

@@ -45,7 +45,9 @@ same-length-2 : tie.Need-same-length-2 Inv-loop μ-loop
 same-length-2 c = search needs
 
 returns-2 : tie.Need-returns-2 Inv-loop μ-loop
-returns-2 c = tried (c .before .before .before .before .before .before .loop .inv)
+returns-2 c =
+    let past-loop = c .before .before .before .before .before .before in
+    tried (past-loop .loop .inv)
 
 add-digit : tie.Need-add-digit Inv-loop μ-loop
 add-digit c = search needs
@@ -54,7 +56,10 @@ loop-less : tie.Need-loop-less Inv-loop μ-loop
 loop-less c = search needs
 
 loop-again : tie.Need-loop-again Inv-loop μ-loop
-loop-again c = tries-on (c .before .before .before .before .before .before .loop .inv) (c .before .before .before .before .before .loop-test .taken)
+loop-again c =
+    let past-loop-test = c .before .before .before .before .before in
+    let past-loop = past-loop-test .before in
+    tries-on (past-loop .loop .inv) (past-loop-test .loop-test .taken)
 
 slice-write-name-2 : tie.Need-slice-write-name-2 Inv-loop μ-loop
 slice-write-name-2 c = omega (arith, c .before .loop .inv .place, c .before .loop .inv .size)

@@ -31,10 +31,13 @@ array-write-name c = search needs
 
 returns : tie.Need-returns
 returns c =
-    let path = c .before .before .before .before .before .before .before .before .before .args .path .now in
-    let more = c .before .before .before .before .before .before .before .before .before .args .more .now in
-    let buffer = c .before .before .before .before .before .before .buffer .result in
-    stands-behind buffer path more _ (c .before .copy2 .last .1 .0) _ (c .before .before .before .before .before .before .before .before .before .pre) (sym (c .before .before .before .before .before .before .buffer .ensures)) (c .before .before .before .before .copy .ensures .1) refl (c .before .copy2 .ensures .1)
+    let past-copy = c .before .before .before .before in
+    let past-buffer = past-copy .before .before in
+    let start = past-buffer .before .before .before in
+    let path = start .args .path .now in
+    let more = start .args .more .now in
+    let buffer = past-buffer .buffer .result in
+    stands-behind buffer path more _ (c .before .copy2 .last .1 .0) _ (start .pre) (sym (past-buffer .buffer .ensures)) (past-copy .copy .ensures .1) refl (c .before .copy2 .ensures .1)
 
 pub with-behind-spec : {M : Type 1} → statement M
 with-behind-spec =

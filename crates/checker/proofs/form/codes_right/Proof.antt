@@ -19,9 +19,12 @@ returns-2 c = tells-no refl (λ h. not-le-of-lt (c .if2 .taken) (h .1))
 
 returns-3 : tie.Need-returns-3
 returns-3 c =
-    let symbol = kept (c .before .before .before .before .before .before .symbol-right .ensures) (c .before .before .before .before .before .if1 .left) in
+    let past-if2 = c .before .before .before in
+    let past-if1 = past-if2 .before .before in
+    let past-symbol-right = past-if1 .before in
+    let symbol = kept (past-symbol-right .symbol-right .ensures) (past-if1 .if1 .left) in
     record {
-      holds = λ e. (symbol, c .before .before .before .if2 .left, c .before .if3 .taken, omega (arith, leb-true));
+      holds = λ e. (symbol, past-if2 .if2 .left, c .before .if3 .taken, omega (arith, leb-true));
       fails = λ e h. not-le-of-lt (leb-false _ _ e) (h .3);
     }
 

@@ -14,7 +14,8 @@ returns-2 c =
 
 returns-3 : tie.Need-returns-3
 returns-3 c =
-    let b = c .before .before .before .before .before .before .args .b in
+    let start = c .before .before .before .before .before .before in
+    let b = start .args .b in
     simp (range-above 48 57 b (omega arith) (omega arith), range-above 65 90 b (omega arith) (omega arith), range-inside 97 122 b (omega arith) (omega arith))
 
 returns-4 : tie.Need-returns-4
@@ -34,7 +35,8 @@ returns-6 c =
 
 returns-7 : tie.Need-returns-7
 returns-7 c =
-    let b = c .before .before .before .before .before .before .args .b in
+    let start = c .before .before .before .before .before .before in
+    let b = start .args .b in
     simp (range-above 48 57 b (omega arith) (omega arith), range-above 65 90 b (omega arith) (omega arith), range-above 97 122 b (omega arith) (omega arith))
 
 pub is-letter-spec : {M : Type 1} → statement M

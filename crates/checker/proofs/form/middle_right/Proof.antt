@@ -40,17 +40,25 @@ field-at-requires-2 : tie.Need-field-at-requires-2
 field-at-requires-2 c κs = search needs
 
 returns-3 : tie.Need-returns-3
-returns-3 c = refuted (rw (c .before .before .before .before .before .before .before .letter-count .ensures) at (c .before .field-at2 .ensures)) (c .if3 .taken) (λ h. h .fourth)
+returns-3 c =
+    let past-letter-count = c .before .before .before .before .before .before .before in
+    refuted (rw (past-letter-count .letter-count .ensures) at (c .before .field-at2 .ensures)) (c .if3 .taken) (λ h. h .fourth)
 
 returns-4 : tie.Need-returns-4
 unfolding tableOf
 returns-4 c =
-    let letters = c .before .before .before .before .before .before .before .before .letter-count .ensures in
-    let states = c .before .before .before .before .before .before .before .state-count .ensures in
+    let past-if2 = c .before .before .before in
+    let past-byte-at = past-if2 .before in
+    let past-if1 = past-byte-at .before in
+    let past-field-at = past-if1 .before in
+    let past-state-count = past-field-at .before in
+    let past-letter-count = past-state-count .before in
+    let letters = past-letter-count .letter-count .ensures in
+    let states = past-state-count .state-count .ensures in
     record {
       holds = λ e. record {
-        third = kept (rw letters at (c .before .before .before .before .before .before .field-at .ensures)) (c .before .before .before .before .before .if1 .left);
-        flag = omega (arith, (rw letters at (c .before .before .before .before .byte-at .ensures)), c .before .before .before .if2 .left);
+        third = kept (rw letters at (past-field-at .field-at .ensures)) (past-if1 .if1 .left);
+        flag = omega (arith, (rw letters at (past-byte-at .byte-at .ensures)), past-if2 .if2 .left);
         fourth = kept (rw letters at (c .before .before .field-at2 .ensures)) (c .before .if3 .left);
         someState = omega (arith, states, c .if4 .taken);
         fewStates = omega (arith, states, leb-true);
@@ -60,7 +68,9 @@ returns-4 c =
 
 returns-5 : tie.Need-returns-5
 unfolding tableOf
-returns-5 c = tells-no (lt-leb _ _ (c .if4 .left)) (λ h. omega (arith, c .before .before .before .before .before .before .before .state-count .ensures, c .if4 .left, h .someState))
+returns-5 c =
+    let past-state-count = c .before .before .before .before .before .before .before in
+    tells-no (lt-leb _ _ (c .if4 .left)) (λ h. omega (arith, past-state-count .state-count .ensures, c .if4 .left, h .someState))
 
 pub middle-right-spec : {M : Type 1} → statement M
 middle-right-spec =

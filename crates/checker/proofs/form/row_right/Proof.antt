@@ -19,12 +19,15 @@ codes-right-requires c κs = search needs
 
 returns : tie.Need-returns
 returns c =
+    let past-states-right = c .before .before .before in
+    let past-row-at = past-states-right .before in
+    let start = past-row-at .before .before in
     codes-tell
     _
-    (c .before .before .before .before .before .before .pre)
-    (c .before .before .before .before .row-at .ensures)
+    (start .pre)
+    (past-row-at .row-at .ensures)
     (c .before .letter-count .ensures)
-    (c .before .before .before .states-right .ensures .holds (c .before .before .if1 .taken))
+    (past-states-right .states-right .ensures .holds (c .before .before .if1 .taken))
     (c .codes-right .ensures)
 
 returns-2 : tie.Need-returns-2

@@ -41,8 +41,12 @@ add-result c = search needs
 add-result-2 : tie.Need-add-result-2
 add-result-2 c =
     let a = c .before .before .before .before .before in
-    let image = a .before .before .before .before .args .image .now in
-    omega (arith, end-low image (a .before .before .letter-count .ensures) (c .before .before .rows-bytes .ensures) (omega (arith, a .before .row-count .ensures, a .if1 .left)), c .before .before .before .before .before .before .before .before .shared-slice-known .given 6)
+    let past-row-count = a .before in
+    let past-letter-count = past-row-count .before in
+    let past-shared-slice-known = past-letter-count .before in
+    let start = past-shared-slice-known .before in
+    let image = start .args .image .now in
+    omega (arith, end-low image (past-letter-count .letter-count .ensures) (c .before .before .rows-bytes .ensures) (omega (arith, past-row-count .row-count .ensures, a .if1 .left)), past-shared-slice-known .shared-slice-known .given 6)
 
 returns-3 : tie.Need-returns-3
 returns-3 c =

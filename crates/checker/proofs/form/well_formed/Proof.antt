@@ -36,22 +36,36 @@ no-other-bit-requires : tie.Need-no-other-bit-requires
 no-other-bit-requires c κs = search needs
 
 rows-right-requires : tie.Need-rows-right-requires
-rows-right-requires c κs = omega (arith, rows-behind (c .before .before .before .before .before .before .before .before .before .before .before .args .image .now) (kept (c .before .before .before .before .before .tail-right .ensures) (c .before .before .before .before .if3 .left)))
+rows-right-requires c κs =
+    let past-if3 = c .before .before .before .before in
+    let past-tail-right = past-if3 .before in
+    let start = past-tail-right .before .before .before .before .before .before in
+    omega (arith, rows-behind (start .args .image .now) (kept (past-tail-right .tail-right .ensures) (past-if3 .if3 .left)))
 
 returns-5 : tie.Need-returns-5
 returns-5 c =
-    let image = c .before .before .before .before .before .before .before .before .before .before .before .before .args .image .now in
+    let past-if4 = c .before .before .before in
+    let past-letters-right = past-if4 .before in
+    let past-if3 = past-letters-right .before in
+    let past-tail-right = past-if3 .before in
+    let past-if2 = past-tail-right .before in
+    let past-middle-right = past-if2 .before in
+    let past-if1 = past-middle-right .before in
+    let past-head-right = past-if1 .before in
+    let past-shared-slice-known = past-head-right .before in
+    let start = past-shared-slice-known .before in
+    let image = start .args .image .now in
     tells-as
     (c .rows-right .ensures)
     (λ rows. (
       tableOf image,
       parts-image
           image
-          (λ i. c .before .before .before .before .before .before .before .before .before .before .before .shared-slice-known .given i .fits)
-          (kept (c .before .before .before .before .before .before .before .before .before .before .head-right .ensures) (c .before .before .before .before .before .before .before .before .before .if1 .left))
-          (kept (c .before .before .before .before .before .before .before .before .middle-right .ensures) (c .before .before .before .before .before .before .before .if2 .left))
-          (kept (c .before .before .before .before .before .before .tail-right .ensures) (c .before .before .before .before .before .if3 .left))
-          (kept (c .before .before .before .before .letters-right .ensures) (c .before .before .before .if4 .left))
+          (λ i. past-shared-slice-known .shared-slice-known .given i .fits)
+          (kept (past-head-right .head-right .ensures) (past-if1 .if1 .left))
+          (kept (past-middle-right .middle-right .ensures) (past-if2 .if2 .left))
+          (kept (past-tail-right .tail-right .ensures) (past-if3 .if3 .left))
+          (kept (past-letters-right .letters-right .ensures) (past-if4 .if4 .left))
           (c .before .before .no-other-bit .ensures .holds (c .before .if5 .taken))
           rows,
     ))

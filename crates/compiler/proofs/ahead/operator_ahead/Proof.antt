@@ -32,7 +32,12 @@ enum-known-found : tie.Need-enum-known-found Inv-loop μ-loop
 enum-known-found c = search needs
 
 returns-2 : tie.Need-returns-2 Inv-loop μ-loop
-returns-2 c = record { finds = λ ts h. let l = c .before .before .before .before .before .before .loop .inv .1 ts h in looked-answer _ _ _ l (c .before .before .before .before .before .see .ensures .stands _ (l .here)) _ (c .before .before .before .before .if1 .left) (sym (c .before .before .before .look .ensures) ∙ c .before .found .given .1) }
+returns-2 c =
+    let past-look = c .before .before .before in
+    let past-if1 = past-look .before in
+    let past-see = past-if1 .before in
+    let past-loop = past-see .before in
+    record { finds = λ ts h. let l = past-loop .loop .inv .1 ts h in looked-answer _ _ _ l (past-see .see .ensures .stands _ (l .here)) _ (past-if1 .if1 .left) (sym (past-look .look .ensures) ∙ c .before .found .given .1) }
 
 enum-known-more : tie.Need-enum-known-more Inv-loop μ-loop
 enum-known-more c = search needs
@@ -41,7 +46,12 @@ loop-less : tie.Need-loop-less Inv-loop μ-loop
 loop-less c = omega (arith, c .before .before .before .before .before .see .ok)
 
 loop-again : tie.Need-loop-again Inv-loop μ-loop
-loop-again c = (omega (arith, c .before .before .before .before .before .before .loop .inv .0, looked-deeper _ _ _ _ (sym (c .before .before .before .look .ensures) ∙ c .before .more .given .1)), λ ts h. let l = c .before .before .before .before .before .before .loop .inv .1 ts h in looked-on _ _ _ l (c .before .before .before .before .before .see .ensures .stands _ (l .here)) _ (c .before .before .before .before .if1 .left) (sym (c .before .before .before .look .ensures) ∙ c .before .more .given .1))
+loop-again c =
+    let past-look = c .before .before .before in
+    let past-if1 = past-look .before in
+    let past-see = past-if1 .before in
+    let past-loop = past-see .before in
+    (omega (arith, past-loop .loop .inv .0, looked-deeper _ _ _ _ (sym (past-look .look .ensures) ∙ c .before .more .given .1)), λ ts h. let l = past-loop .loop .inv .1 ts h in looked-on _ _ _ l (past-see .see .ensures .stands _ (l .here)) _ (past-if1 .if1 .left) (sym (past-look .look .ensures) ∙ c .before .more .given .1))
 
 pub operator-ahead-spec : {M : Type 1} → statement M
 operator-ahead-spec =

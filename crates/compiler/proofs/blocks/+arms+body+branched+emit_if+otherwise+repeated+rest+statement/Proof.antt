@@ -200,13 +200,17 @@ arms-free-requires : (t : ℕ) → arms-lts.Need-free-requires (arms-calls t) (a
 arms-free-requires t c κs = arms-room (settled (c .before .before .before .pre .1 .doing))
 
 arms-add-t14 : (t : ℕ) → arms-lts.Need-add-t14 (arms-calls t) (arms-at t) arms.Post
-arms-add-t14 t c = omega (arith, arms-few (settled (c .before .before .before .before .before .before .pre .1 .doing)))
+arms-add-t14 t c =
+    let start = c .before .before .before .before .before .before in
+    omega (arith, arms-few (settled (start .pre .1 .doing)))
 
 arms-body-requires : (t : ℕ) → arms-lts.Need-body-requires (arms-calls t) (arms-at t) arms.Post
-arms-body-requires t c κs = (
-  omega (arith, c .before .before .before .before .before .before .before .pre .0),
-  ready (arm-doing (settled (c .before .before .before .before .before .before .before .pre .1 .doing)) (c .before .before .before .free .ensures)),
-)
+arms-body-requires t c κs =
+    let past-free = c .before .before .before in
+    let start = past-free .before .before .before .before in (
+      omega (arith, start .pre .0),
+      ready (arm-doing (settled (start .pre .1 .doing)) (past-free .free .ensures)),
+    )
 
 arms-see-requires : (t : ℕ) → arms-lts.Need-see-requires (arms-calls t) (arms-at t) arms.Post
 arms-see-requires t c κs = search needs
@@ -216,12 +220,16 @@ arms-enum-told t c = search needs
 
 arms-arms-requires : (t : ℕ) → arms-lts.Need-arms-requires (arms-calls t) (arms-at t) arms.Post
 arms-arms-requires t c κs =
-    let d = settled (c .before .before .before .before .before .before .before .before .before .before .before .before .before .before .pre .1 .doing) in
-    let arm = c .before .before .before .before .before .before .body .ensures in
-    let e = arm .emits (arm-doing d (c .before .before .before .before .before .before .before .before .before .before .free .ensures)) in
-    let sees = c .before .before .before .see .ensures in
+    let past-see = c .before .before .before in
+    let past-body = past-see .before .before .before in
+    let past-free = past-body .before .before .before .before in
+    let start = past-free .before .before .before .before in
+    let d = settled (start .pre .1 .doing) in
+    let arm = past-body .body .ensures in
+    let e = arm .emits (arm-doing d (past-free .free .ensures)) in
+    let sees = past-see .see .ensures in
     let is = c .before .enum-told .given .1 in (
-      omega (arith, c .before .before .before .before .before .before .before .before .before .before .before .before .before .before .pre .0, arm .onward, also-onward d e sees is .0, also-onward d e sees is .1),
+      omega (arith, start .pre .0, arm .onward, also-onward d e sees is .0, also-onward d e sees is .1),
       ready (more-doing d e sees is),
     )
 
@@ -230,12 +238,17 @@ arms-same-length t c = search needs
 
 arms-returns : (t : ℕ) → arms-lts.Need-returns (arms-calls t) (arms-at t) arms.Post
 arms-returns t c =
-    let arm = c .before .before .before .before .before .before .before .before .before .body .ensures in
-    let writes = c .before .before .before .before .before .before .before .before .before .before .before .before .before .free .ensures in
-    let sees = c .before .before .before .before .before .before .see .ensures in
-    let is = c .before .before .before .before .enum-told .given .1 in
+    let past-enum-told = c .before .before .before .before in
+    let past-see = past-enum-told .before .before in
+    let past-body = past-see .before .before .before in
+    let past-free = past-body .before .before .before .before in
+    let start = past-free .before .before .before .before in
+    let arm = past-body .body .ensures in
+    let writes = past-free .free .ensures in
+    let sees = past-see .see .ensures in
+    let is = past-enum-told .enum-told .given .1 in
     let more = c .before .before .arms .ensures in
-    let d₀ = settled (c .before .before .before .before .before .before .before .before .before .before .before .before .before .before .before .before .before .pre .1 .doing) in
+    let d₀ = settled (start .pre .1 .doing) in
     let e₀ = arm .emits (arm-doing d₀ writes) in
     record {
       emits = λ d′.
@@ -250,8 +263,10 @@ arms-same-length-2 t c = search needs
 
 arms-returns-2 : (t : ℕ) → arms-lts.Need-returns-2 (arms-calls t) (arms-at t) arms.Post
 arms-returns-2 t c =
-    let arm = c .before .before .before .before .body .ensures in
-    let writes = c .before .before .before .before .before .before .before .before .free .ensures in
+    let past-body = c .before .before .before .before in
+    let past-free = past-body .before .before .before .before in
+    let arm = past-body .body .ensures in
+    let writes = past-free .free .ensures in
     let sees = c .before .see .ensures in
     record {
       emits = λ d′.
@@ -271,21 +286,27 @@ body-rest-requires t c κs =
 
 body-free-requires : (t : ℕ) → body-lts.Need-free-requires (body-calls t) (body-at t) body.Post
 body-free-requires t c κs =
-    let d = c .before .before .before .before .before .before .before .before .pre .1 .doing in
-    let enters = c .before .before .before .before .before .past .ensures in
-    body-room enters d (c .before .before .before .rest .ensures .emits (inside-doing enters d))
+    let past-rest = c .before .before .before in
+    let past-past = past-rest .before .before in
+    let start = past-past .before .before .before in
+    let d = start .pre .1 .doing in
+    let enters = past-past .past .ensures in
+    body-room enters d (past-rest .rest .ensures .emits (inside-doing enters d))
 
 body-same-length : (t : ℕ) → body-lts.Need-same-length (body-calls t) (body-at t) body.Post
 body-same-length t c = search needs
 
 body-returns : (t : ℕ) → body-lts.Need-returns (body-calls t) (body-at t) body.Post
 body-returns t c =
-    let enters = c .before .before .before .before .before .before .before .before .past .ensures in
-    let inside = c .before .before .before .before .before .before .rest .ensures in
+    let past-rest = c .before .before .before .before .before .before in
+    let past-past = past-rest .before .before in
+    let start = past-past .before .before .before in
+    let enters = past-past .past .ensures in
+    let inside = past-rest .rest .ensures in
     let writes = c .before .before .free .ensures in
     record {
       emits = λ d. body-emitted enters d (inside .emits (inside-doing enters d)) writes;
-      onward = omega (arith, inside-onward enters (c .before .before .before .before .before .before .before .before .before .before .before .pre .1 .doing), inside .onward);
+      onward = omega (arith, inside-onward enters (start .pre .1 .doing), inside .onward);
     }
 
 branched-add-t6 : (t : ℕ) → branched-lts.Need-add-t6 (branched-calls t) (branched-at t) branched.Post
@@ -316,17 +337,22 @@ emit-if-tested-requires t c κs = ready (if-asking (settled (c .before .before .
 
 emit-if-body-requires : (t : ℕ) → emit-if-lts.Need-body-requires (emit-if-calls t) (emit-if-at t) emit-if.Post
 emit-if-body-requires t c κs =
-    let d = settled (c .before .before .before .before .before .before .before .pre .1 .doing) in
-    let asked = c .before .before .before .tested .ensures in
-    (omega (arith, c .before .before .before .before .before .before .before .pre .0, asked .onward), ready (if-holding d (asked .emits (if-asking d))))
+    let past-tested = c .before .before .before in
+    let start = past-tested .before .before .before .before in
+    let d = settled (start .pre .1 .doing) in
+    let asked = past-tested .tested .ensures in
+    (omega (arith, start .pre .0, asked .onward), ready (if-holding d (asked .emits (if-asking d))))
 
 emit-if-otherwise-requires : (t : ℕ) → emit-if-lts.Need-otherwise-requires (emit-if-calls t) (emit-if-at t) emit-if.Post
 emit-if-otherwise-requires t c κs =
-    let d = settled (c .before .before .before .before .before .before .before .before .before .before .before .pre .1 .doing) in
-    let asked = c .before .before .before .before .before .before .before .tested .ensures in
-    let first = c .before .before .before .body .ensures in
+    let past-body = c .before .before .before in
+    let past-tested = past-body .before .before .before .before in
+    let start = past-tested .before .before .before .before in
+    let d = settled (start .pre .1 .doing) in
+    let asked = past-tested .tested .ensures in
+    let first = past-body .body .ensures in
     let e = asked .emits (if-asking d) in (
-      omega (arith, c .before .before .before .before .before .before .before .before .before .before .before .pre .0, asked .onward, first .onward),
+      omega (arith, start .pre .0, asked .onward, first .onward),
       ready (if-failing d e (first .emits (if-holding d e))),
     )
 
@@ -335,8 +361,10 @@ emit-if-same-length t c = search needs
 
 emit-if-returns : (t : ℕ) → emit-if-lts.Need-returns (emit-if-calls t) (emit-if-at t) emit-if.Post
 emit-if-returns t c =
-    let asked = c .before .before .before .before .before .before .before .before .before .before .tested .ensures in
-    let first = c .before .before .before .before .before .before .body .ensures in
+    let past-body = c .before .before .before .before .before .before in
+    let past-tested = past-body .before .before .before .before in
+    let asked = past-tested .tested .ensures in
+    let first = past-body .body .ensures in
     let last = c .before .before .otherwise .ensures in
     record {
       emits = λ d′.
@@ -355,10 +383,12 @@ otherwise-enum-told t c = search needs
 
 otherwise-body-requires : (t : ℕ) → otherwise-lts.Need-body-requires (otherwise-calls t) (otherwise-at t) otherwise.Post
 otherwise-body-requires t c κs =
-    let d = c .before .before .before .before .before .before .pre .1 .doing in
-    let sees = c .before .before .before .see .ensures in
+    let past-see = c .before .before .before in
+    let start = past-see .before .before .before in
+    let d = start .pre .1 .doing in
+    let sees = past-see .see .ensures in
     let is = c .before .enum-told .given .1 in
-    (omega (arith, c .before .before .before .before .before .before .pre .0, else-onward sees d is .0, else-onward sees d is .1), ready (else-doing sees d is))
+    (omega (arith, start .pre .0, else-onward sees d is .0, else-onward sees d is .1), ready (else-doing sees d is))
 
 otherwise-free-requires : (t : ℕ) → otherwise-lts.Need-free-requires (otherwise-calls t) (otherwise-at t) otherwise.Post
 otherwise-free-requires t c κs = without-room (c .before .before .see .ensures) (c .before .before .before .before .before .pre .1 .doing) (c .before .match .keys2)
@@ -368,12 +398,15 @@ otherwise-same-length t c = search needs
 
 otherwise-returns : (t : ℕ) → otherwise-lts.Need-returns (otherwise-calls t) (otherwise-at t) otherwise.Post
 otherwise-returns t c =
-    let sees = c .before .before .before .before .before .before .see .ensures in
-    let is = c .before .before .before .before .enum-told .given .1 in
+    let past-enum-told = c .before .before .before .before in
+    let past-see = past-enum-told .before .before in
+    let start = past-see .before .before .before in
+    let sees = past-see .see .ensures in
+    let is = past-enum-told .enum-told .given .1 in
     let block = c .before .before .body .ensures in
     record {
       emits = λ d. block .emits (else-doing sees d is);
-      onward = omega (arith, else-onward sees (c .before .before .before .before .before .before .before .before .before .pre .1 .doing) is .0, block .onward);
+      onward = omega (arith, else-onward sees (start .pre .1 .doing) is .0, block .onward);
     }
 
 otherwise-same-length-2 : (t : ℕ) → otherwise-lts.Need-same-length-2 (otherwise-calls t) (otherwise-at t) otherwise.Post
@@ -396,16 +429,19 @@ repeated-entry-requires t c κs = ready (loop-entry (settled (c .before .before 
 
 repeated-body-requires : (t : ℕ) → repeated-lts.Need-body-requires (repeated-calls t) (repeated-at t) repeated.Post
 repeated-body-requires t c κs =
-    let d = settled (c .before .before .before .before .before .before .before .pre .1 .doing) in
-    let entered = c .before .before .before .entry .ensures in
-    (omega (arith, c .before .before .before .before .before .before .before .pre .0, entered .onward), ready (loop-body d (entered .emits (loop-entry d))))
+    let past-entry = c .before .before .before in
+    let start = past-entry .before .before .before .before in
+    let d = settled (start .pre .1 .doing) in
+    let entered = past-entry .entry .ensures in
+    (omega (arith, start .pre .0, entered .onward), ready (loop-body d (entered .emits (loop-entry d))))
 
 repeated-same-length : (t : ℕ) → repeated-lts.Need-same-length (repeated-calls t) (repeated-at t) repeated.Post
 repeated-same-length t c = search needs
 
 repeated-returns : (t : ℕ) → repeated-lts.Need-returns (repeated-calls t) (repeated-at t) repeated.Post
 repeated-returns t c =
-    let entered = c .before .before .before .before .before .before .entry .ensures in
+    let past-entry = c .before .before .before .before .before .before in
+    let entered = past-entry .entry .ensures in
     let block = c .before .before .body .ensures in
     record {
       emits = λ d′.
@@ -429,11 +465,15 @@ rest-statement-requires t c κs =
 
 rest-rest-requires : (t : ℕ) → rest-lts.Need-rest-requires (rest-calls t) (rest-at t) rest.Post
 rest-rest-requires t c κs =
-    let d = c .before .before .before .before .before .before .before .before .before .pre .1 .doing in
-    let sees = c .before .before .before .before .before .before .see .ensures in
-    let other = c .before .before .before .before .before .match .keys2 in
-    let first = c .before .before .before .statement .ensures in (
-      omega (arith, c .before .before .before .before .before .before .before .before .before .pre .0, first .1, rest-some sees d other),
+    let past-statement = c .before .before .before in
+    let past-match = past-statement .before .before in
+    let past-see = past-match .before in
+    let start = past-see .before .before .before in
+    let d = start .pre .1 .doing in
+    let sees = past-see .see .ensures in
+    let other = past-match .match .keys2 in
+    let first = past-statement .statement .ensures in (
+      omega (arith, start .pre .0, first .1, rest-some sees d other),
       ready (rest-doing sees d other (first .0 .emits (statement-doing sees d other))),
     )
 
@@ -448,9 +488,12 @@ rest-same-length t c = search needs
 
 rest-returns-2 : (t : ℕ) → rest-lts.Need-returns-2 (rest-calls t) (rest-at t) rest.Post
 rest-returns-2 t c =
-    let sees = c .before .before .before .before .before .before .before .before .before .see .ensures in
-    let other = c .before .before .before .before .before .before .before .before .match .keys2 in
-    let first = c .before .before .before .before .before .before .statement .ensures in
+    let past-statement = c .before .before .before .before .before .before in
+    let past-match = past-statement .before .before in
+    let past-see = past-match .before in
+    let sees = past-see .see .ensures in
+    let other = past-match .match .keys2 in
+    let first = past-statement .statement .ensures in
     let last = c .before .before .rest .ensures in
     record {
       emits = λ d.
@@ -467,8 +510,10 @@ statement-enum-told t c = search needs
 
 statement-emit-move-requires : (t : ℕ) → statement-lts.Need-emit-move-requires (statement-calls t) (statement-at t) statement′.Post
 statement-emit-move-requires t c κs =
-    let d = c .before .before .before .before .before .before .pre .1 .doing in
-    let sees = c .before .before .before .see .ensures in
+    let past-see = c .before .before .before in
+    let start = past-see .before .before .before in
+    let d = start .pre .1 .doing in
+    let sees = past-see .see .ensures in
     let a = named sees d Word.Move _ (λ bytes which. which) tt (c .before .enum-told .given .1) in
     ready (headed-doing sees d a)
 
@@ -477,8 +522,10 @@ statement-enum-told-2 t c = search needs
 
 statement-emit-goto-requires : (t : ℕ) → statement-lts.Need-emit-goto-requires (statement-calls t) (statement-at t) statement′.Post
 statement-emit-goto-requires t c κs =
-    let d = c .before .before .before .before .before .before .pre .1 .doing in
-    let sees = c .before .before .before .see .ensures in
+    let past-see = c .before .before .before in
+    let start = past-see .before .before .before in
+    let d = start .pre .1 .doing in
+    let sees = past-see .see .ensures in
     let a = named sees d Word.Goto _ (λ bytes which. which) tt (c .before .enum-told2 .given .1) in
     ready (headed-doing sees d a)
 
@@ -487,8 +534,10 @@ statement-enum-told-3 t c = search needs
 
 statement-change-requires : (t : ℕ) → statement-lts.Need-change-requires (statement-calls t) (statement-at t) statement′.Post
 statement-change-requires t c κs =
-    let d = c .before .before .before .before .before .before .pre .1 .doing in
-    let sees = c .before .before .before .see .ensures in
+    let past-see = c .before .before .before in
+    let start = past-see .before .before .before in
+    let d = start .pre .1 .doing in
+    let sees = past-see .see .ensures in
     let a = named sees d Word.C _ (λ bytes which. which) tt (c .before .enum-told3 .given .1) in
     ready (headed-doing sees d a)
 
@@ -497,8 +546,10 @@ statement-enum-told-4 t c = search needs
 
 statement-accepted-requires : (t : ℕ) → statement-lts.Need-accepted-requires (statement-calls t) (statement-at t) statement′.Post
 statement-accepted-requires t c κs =
-    let d = c .before .before .before .before .before .before .pre .1 .doing in
-    let sees = c .before .before .before .see .ensures in
+    let past-see = c .before .before .before in
+    let start = past-see .before .before .before in
+    let d = start .pre .1 .doing in
+    let sees = past-see .see .ensures in
     let a = named sees d Word.Accept _ (λ bytes which. which) tt (c .before .enum-told4 .given .1) in
     ready (headed-doing sees d a)
 
@@ -516,20 +567,24 @@ statement-enum-told-6 t c = search needs
 
 statement-emit-if-requires : (t : ℕ) → statement-lts.Need-emit-if-requires (statement-calls t) (statement-at t) statement′.Post
 statement-emit-if-requires t c κs =
-    let d = c .before .before .before .before .before .before .pre .1 .doing in
-    let sees = c .before .before .before .see .ensures in
+    let past-see = c .before .before .before in
+    let start = past-see .before .before .before in
+    let d = start .pre .1 .doing in
+    let sees = past-see .see .ensures in
     let a = named sees d Word.If _ (λ bytes which. which) tt (c .before .enum-told6 .given .1) in
-    (omega (arith, c .before .before .before .before .before .before .pre .0, a .behind .onward, a .behind .within), ready (headed-doing sees d a))
+    (omega (arith, start .pre .0, a .behind .onward, a .behind .within), ready (headed-doing sees d a))
 
 statement-enum-told-7 : (t : ℕ) → statement-lts.Need-enum-told-7 (statement-calls t) (statement-at t) statement′.Post
 statement-enum-told-7 t c = search needs
 
 statement-repeated-requires : (t : ℕ) → statement-lts.Need-repeated-requires (statement-calls t) (statement-at t) statement′.Post
 statement-repeated-requires t c κs =
-    let d = c .before .before .before .before .before .before .pre .1 .doing in
-    let sees = c .before .before .before .see .ensures in
+    let past-see = c .before .before .before in
+    let start = past-see .before .before .before in
+    let d = start .pre .1 .doing in
+    let sees = past-see .see .ensures in
     let a = named sees d Word.While _ (λ bytes which. which) tt (c .before .enum-told7 .given .1) in
-    (omega (arith, c .before .before .before .before .before .before .pre .0, a .behind .onward, a .behind .within), ready (headed-doing sees d a))
+    (omega (arith, start .pre .0, a .behind .onward, a .behind .within), ready (headed-doing sees d a))
 
 statement-branched-requires : (t : ℕ) → statement-lts.Need-branched-requires (statement-calls t) (statement-at t) statement′.Post
 statement-branched-requires t c κs =
@@ -543,10 +598,13 @@ statement-same-length t c = search needs
 
 statement-returns : (t : ℕ) → statement-lts.Need-returns (statement-calls t) (statement-at t) statement′.Post
 statement-returns t c =
-    let sees = c .before .before .before .before .before .before .see .ensures in
-    let is = c .before .before .before .before .enum-told .given .1 in
+    let past-enum-told = c .before .before .before .before in
+    let past-see = past-enum-told .before .before in
+    let start = past-see .before .before .before in
+    let sees = past-see .see .ensures in
+    let is = past-enum-told .enum-told .given .1 in
     let whole = c .before .before .emit-move .ensures in
-    let a₀ = named sees (c .before .before .before .before .before .before .before .before .before .pre .1 .doing) Word.Move _ (λ bytes which. which) tt is in (
+    let a₀ = named sees (start .pre .1 .doing) Word.Move _ (λ bytes which. which) tt is in (
       record {
         emits = λ d. whole .emits (headed-doing sees d (named sees d Word.Move _ (λ bytes which. which) tt is));
         onward = omega (arith, a₀ .behind .onward, whole .onward);
@@ -559,10 +617,13 @@ statement-same-length-2 t c = search needs
 
 statement-returns-2 : (t : ℕ) → statement-lts.Need-returns-2 (statement-calls t) (statement-at t) statement′.Post
 statement-returns-2 t c =
-    let sees = c .before .before .before .before .before .before .see .ensures in
-    let is = c .before .before .before .before .enum-told2 .given .1 in
+    let past-enum-told2 = c .before .before .before .before in
+    let past-see = past-enum-told2 .before .before in
+    let start = past-see .before .before .before in
+    let sees = past-see .see .ensures in
+    let is = past-enum-told2 .enum-told2 .given .1 in
     let whole = c .before .before .emit-goto .ensures in
-    let a₀ = named sees (c .before .before .before .before .before .before .before .before .before .pre .1 .doing) Word.Goto _ (λ bytes which. which) tt is in (
+    let a₀ = named sees (start .pre .1 .doing) Word.Goto _ (λ bytes which. which) tt is in (
       record {
         emits = λ d. whole .emits (headed-doing sees d (named sees d Word.Goto _ (λ bytes which. which) tt is));
         onward = omega (arith, a₀ .behind .onward, whole .onward);
@@ -575,10 +636,13 @@ statement-same-length-3 t c = search needs
 
 statement-returns-3 : (t : ℕ) → statement-lts.Need-returns-3 (statement-calls t) (statement-at t) statement′.Post
 statement-returns-3 t c =
-    let sees = c .before .before .before .before .before .before .see .ensures in
-    let is = c .before .before .before .before .enum-told3 .given .1 in
+    let past-enum-told3 = c .before .before .before .before in
+    let past-see = past-enum-told3 .before .before in
+    let start = past-see .before .before .before in
+    let sees = past-see .see .ensures in
+    let is = past-enum-told3 .enum-told3 .given .1 in
     let whole = c .before .before .change .ensures in
-    let a₀ = named sees (c .before .before .before .before .before .before .before .before .before .pre .1 .doing) Word.C _ (λ bytes which. which) tt is in (
+    let a₀ = named sees (start .pre .1 .doing) Word.C _ (λ bytes which. which) tt is in (
       record {
         emits = λ d. whole .emits (headed-doing sees d (named sees d Word.C _ (λ bytes which. which) tt is));
         onward = omega (arith, a₀ .behind .onward, whole .onward);
@@ -591,10 +655,13 @@ statement-same-length-4 t c = search needs
 
 statement-returns-4 : (t : ℕ) → statement-lts.Need-returns-4 (statement-calls t) (statement-at t) statement′.Post
 statement-returns-4 t c =
-    let sees = c .before .before .before .before .before .before .see .ensures in
-    let is = c .before .before .before .before .enum-told4 .given .1 in
+    let past-enum-told4 = c .before .before .before .before in
+    let past-see = past-enum-told4 .before .before in
+    let start = past-see .before .before .before in
+    let sees = past-see .see .ensures in
+    let is = past-enum-told4 .enum-told4 .given .1 in
     let whole = c .before .before .accepted .ensures in
-    let a₀ = named sees (c .before .before .before .before .before .before .before .before .before .pre .1 .doing) Word.Accept _ (λ bytes which. which) tt is in (
+    let a₀ = named sees (start .pre .1 .doing) Word.Accept _ (λ bytes which. which) tt is in (
       record {
         emits = λ d. whole .emits (headed-doing sees d (named sees d Word.Accept _ (λ bytes which. which) tt is));
         onward = omega (arith, a₀ .behind .onward, whole .onward);
@@ -604,10 +671,12 @@ statement-returns-4 t c =
 
 statement-returns-5 : (t : ℕ) → statement-lts.Need-returns-5 (statement-calls t) (statement-at t) statement′.Post
 statement-returns-5 t c =
-    let sees = c .before .before .before .see .ensures in
+    let past-see = c .before .before .before in
+    let start = past-see .before .before .before in
+    let sees = past-see .see .ensures in
     let is = c .before .enum-told5 .given .1 in
     let st = c .stop .ensures in
-    let d₀ = c .before .before .before .before .before .before .pre .1 .doing in
+    let d₀ = start .pre .1 .doing in
     let a₀ = named sees d₀ Word.Reject _ (λ bytes which. which) tt is in
     let later = reject-onward (headed-doing sees d₀ a₀) st in (
       record {
@@ -622,10 +691,13 @@ statement-same-length-5 t c = search needs
 
 statement-returns-6 : (t : ℕ) → statement-lts.Need-returns-6 (statement-calls t) (statement-at t) statement′.Post
 statement-returns-6 t c =
-    let sees = c .before .before .before .before .before .before .see .ensures in
-    let is = c .before .before .before .before .enum-told6 .given .1 in
+    let past-enum-told6 = c .before .before .before .before in
+    let past-see = past-enum-told6 .before .before in
+    let start = past-see .before .before .before in
+    let sees = past-see .see .ensures in
+    let is = past-enum-told6 .enum-told6 .given .1 in
     let whole = c .before .before .emit-if .ensures in
-    let a₀ = named sees (c .before .before .before .before .before .before .before .before .before .pre .1 .doing) Word.If _ (λ bytes which. which) tt is in (
+    let a₀ = named sees (start .pre .1 .doing) Word.If _ (λ bytes which. which) tt is in (
       record {
         emits = λ d. whole .emits (headed-doing sees d (named sees d Word.If _ (λ bytes which. which) tt is));
         onward = omega (arith, a₀ .behind .onward, whole .onward);
@@ -638,10 +710,13 @@ statement-same-length-6 t c = search needs
 
 statement-returns-7 : (t : ℕ) → statement-lts.Need-returns-7 (statement-calls t) (statement-at t) statement′.Post
 statement-returns-7 t c =
-    let sees = c .before .before .before .before .before .before .see .ensures in
-    let is = c .before .before .before .before .enum-told7 .given .1 in
+    let past-enum-told7 = c .before .before .before .before in
+    let past-see = past-enum-told7 .before .before in
+    let start = past-see .before .before .before in
+    let sees = past-see .see .ensures in
+    let is = past-enum-told7 .enum-told7 .given .1 in
     let whole = c .before .before .repeated .ensures in
-    let a₀ = named sees (c .before .before .before .before .before .before .before .before .before .pre .1 .doing) Word.While _ (λ bytes which. which) tt is in (
+    let a₀ = named sees (start .pre .1 .doing) Word.While _ (λ bytes which. which) tt is in (
       record {
         emits = λ d. whole .emits (headed-doing sees d (named sees d Word.While _ (λ bytes which. which) tt is));
         onward = omega (arith, a₀ .behind .onward, whole .onward);
@@ -654,10 +729,13 @@ statement-same-length-7 t c = search needs
 
 statement-returns-8 : (t : ℕ) → statement-lts.Need-returns-8 (statement-calls t) (statement-at t) statement′.Post
 statement-returns-8 t c =
-    let sees = c .before .before .before .before .before .see .ensures in
-    let other = c .before .before .before .before .match .keys8 in
+    let past-match = c .before .before .before .before in
+    let past-see = past-match .before in
+    let start = past-see .before .before .before in
+    let sees = past-see .see .ensures in
+    let other = past-match .match .keys8 in
     let whole = c .before .before .branched .ensures in
-    let a₀ = unnamed sees (c .before .before .before .before .before .before .before .before .pre .1 .doing) other in (
+    let a₀ = unnamed sees (start .pre .1 .doing) other in (
       record {
         emits = λ d. whole .emits (headed-doing sees d (unnamed sees d other));
         onward = omega (arith, a₀ .behind .onward, whole .onward);

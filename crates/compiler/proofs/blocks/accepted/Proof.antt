@@ -9,18 +9,22 @@ accept-requires : tie.Need-accept-requires
 accept-requires c κs = at-held (c .before .before .before .pre .doing .stands)
 
 stop-requires : tie.Need-stop-requires
-stop-requires c κs = accept-few (c .before .before .before .before .before .before .pre .doing)
+stop-requires c κs =
+    let start = c .before .before .before .before .before .before in
+    accept-few (start .pre .doing)
 
 same-length : tie.Need-same-length
 same-length c = search needs
 
 returns : tie.Need-returns
 returns c =
-    let marks = c .before .before .before .accept .ensures in
+    let past-accept = c .before .before .before in
+    let start = past-accept .before .before .before .before in
+    let marks = past-accept .accept .ensures in
     let st = c .stop .ensures in
     record {
       emits = λ d. accept-emitted d marks st;
-      onward = accept-onward (c .before .before .before .before .before .before .before .pre .doing) st;
+      onward = accept-onward (start .pre .doing) st;
     }
 
 pub accepted-spec : {M : Type 1} → statement M

@@ -13,11 +13,18 @@ enum-told : tie.Need-enum-told
 enum-told c = search needs
 
 free-requires : tie.Need-free-requires
-free-requires c κs = choice-room (c .before .before .before .see .ensures) (c .before .before .before .before .before .before .pre .doing) (c .before .enum-told .given .1)
+free-requires c κs =
+    let past-see = c .before .before .before in
+    let start = past-see .before .before .before in
+    choice-room (past-see .see .ensures) (start .pre .doing) (c .before .enum-told .given .1)
 
 free-requires-2 : tie.Need-free-requires-2
 free-requires-2 c κs =
-    choice-room-then (c .before .before .before .before .before .before .before .see .ensures) (c .before .before .before .before .before .before .before .before .before .before .pre .doing) (c .before .before .before .before .before .enum-told .given .1) (c .before .before .before .free .ensures)
+    let past-free = c .before .before .before in
+    let past-enum-told = past-free .before .before in
+    let past-see = past-enum-told .before .before in
+    let start = past-see .before .before .before in
+    choice-room-then (past-see .see .ensures) (start .pre .doing) (past-enum-told .enum-told .given .1) (past-free .free .ensures)
 
 tested-requires : tie.Need-tested-requires
 tested-requires c κs = ready (entry-asks (c .before .before .see .ensures) (c .before .before .before .before .before .pre .doing) (c .before .match .keys2))
@@ -27,13 +34,17 @@ same-length c = search needs
 
 returns : tie.Need-returns
 returns c =
-    let sees = c .before .before .before .before .before .before .before .before .before .before .see .ensures in
-    let is = c .before .before .before .before .before .before .before .before .enum-told .given .1 in
-    let first = c .before .before .before .before .before .before .free .ensures in
+    let past-free = c .before .before .before .before .before .before in
+    let past-enum-told = past-free .before .before in
+    let past-see = past-enum-told .before .before in
+    let start = past-see .before .before .before in
+    let sees = past-see .see .ensures in
+    let is = past-enum-told .enum-told .given .1 in
+    let first = past-free .free .ensures in
     let second = c .before .before .free2 .ensures in
     record {
       emits = λ d. choice-emitted sees d is first second;
-      onward = omega (arith, choice-onward sees (c .before .before .before .before .before .before .before .before .before .before .before .before .before .pre .doing) is);
+      onward = omega (arith, choice-onward sees (start .pre .doing) is);
     }
 
 same-length-2 : tie.Need-same-length-2

@@ -9,14 +9,18 @@ begin-requires : tie.Need-begin-requires
 begin-requires c κs = search needs
 
 rest-requires : tie.Need-rest-requires
-rest-requires c κs = ready (c .before .before .before .begin .ensures .begins (c .before .before .before .before .before .before .before .pre .fits) .doing)
+rest-requires c κs =
+    let past-begin = c .before .before .before in
+    let start = past-begin .before .before .before .before in
+    ready (past-begin .begin .ensures .begins (start .pre .fits) .doing)
 
 same-length : tie.Need-same-length
 same-length c = search needs
 
 returns : tie.Need-returns
 returns c =
-    record { images = λ fits. whole-image fits (c .before .before .before .before .before .before .begin .ensures .begins fits) (c .before .before .rest .ensures) }
+    let past-begin = c .before .before .before .before .before .before in
+    record { images = λ fits. whole-image fits (past-begin .begin .ensures .begins fits) (c .before .before .rest .ensures) }
 
 pub emit-spec : {M : Type 1} → statement M
 emit-spec = tie.close (tie.spec begin-requires rest-requires same-length returns)

@@ -24,16 +24,20 @@ enum-told c = search needs
 
 step-requires : tie.Need-step-requires
 step-requires c κs =
-    let d = c .before .before .before .before .before .before .pre .doing in
-    step-room d (up-short (c .before .before .before .see .ensures) d (c .before .enum-told .given .1) .stepping)
+    let past-see = c .before .before .before in
+    let start = past-see .before .before .before in
+    let d = start .pre .doing in
+    step-room d (up-short (past-see .see .ensures) d (c .before .enum-told .given .1) .stepping)
 
 enum-told-2 : tie.Need-enum-told-2
 enum-told-2 c = search needs
 
 step-requires-2 : tie.Need-step-requires-2
 step-requires-2 c κs =
-    let d = c .before .before .before .before .before .before .pre .doing in
-    step-room d (down-short (c .before .before .before .see .ensures) d (c .before .enum-told2 .given .1) .stepping)
+    let past-see = c .before .before .before in
+    let start = past-see .before .before .before in
+    let d = start .pre .doing in
+    step-room d (down-short (past-see .see .ensures) d (c .before .enum-told2 .given .1) .stepping)
 
 enum-told-3 : tie.Need-enum-told-3
 enum-told-3 c = search needs
@@ -42,17 +46,26 @@ see-requires-2 : tie.Need-see-requires-2
 see-requires-2 c κs = search needs
 
 number-requires : tie.Need-number-requires
-number-requires c κs = up-counted (c .before .before .before .see .ensures) (c .before .before .before .before .before .before .pre .doing) (c .before .enum-told3 .given .1) (c .see2 .ensures) .digits
+number-requires c κs =
+    let past-see = c .before .before .before in
+    let start = past-see .before .before .before in
+    up-counted (past-see .see .ensures) (start .pre .doing) (c .before .enum-told3 .given .1) (c .see2 .ensures) .digits
 
 add-step : tie.Need-add-step
 add-step c =
-    let n = up-counted (c .before .before .before .before .before .see .ensures) (c .before .before .before .before .before .before .before .before .pre .doing) (c .before .before .before .enum-told3 .given .1) (c .before .before .see2 .ensures) in
+    let past-enum-told3 = c .before .before .before in
+    let past-see = past-enum-told3 .before .before in
+    let start = past-see .before .before .before in
+    let n = up-counted (past-see .see .ensures) (start .pre .doing) (past-enum-told3 .enum-told3 .given .1) (c .before .before .see2 .ensures) in
     omega (arith, n .small, c .before .number .ensures)
 
 step-requires-3 : tie.Need-step-requires-3
 step-requires-3 c κs =
-    let d = c .before .before .before .before .before .before .before .before .pre .doing in
-    let n = up-counted (c .before .before .before .before .before .see .ensures) d (c .before .before .before .enum-told3 .given .1) (c .before .before .see2 .ensures) in
+    let past-enum-told3 = c .before .before .before in
+    let past-see = past-enum-told3 .before .before in
+    let start = past-see .before .before .before in
+    let d = start .pre .doing in
+    let n = up-counted (past-see .see .ensures) d (past-enum-told3 .enum-told3 .given .1) (c .before .before .see2 .ensures) in
     step-room d (stepping-by (λ _. noMove) (λ (v : ℕ). noChange + v) _ n (c .before .number .ensures))
 
 see-requires-3 : tie.Need-see-requires-3
@@ -63,13 +76,19 @@ number-requires-2 c κs = down-counted (c .before .before .see .ensures) (c .bef
 
 sub-step : tie.Need-sub-step
 sub-step c =
-    let n = down-counted (c .before .before .before .before .see .ensures) (c .before .before .before .before .before .before .before .pre .doing) (c .before .before .before .match .keys4) (c .before .before .see3 .ensures) in
+    let past-match = c .before .before .before in
+    let past-see = past-match .before in
+    let start = past-see .before .before .before in
+    let n = down-counted (past-see .see .ensures) (start .pre .doing) (past-match .match .keys4) (c .before .before .see3 .ensures) in
     omega (arith, n .small, c .before .number2 .ensures)
 
 step-requires-4 : tie.Need-step-requires-4
 step-requires-4 c κs =
-    let d = c .before .before .before .before .before .before .before .pre .doing in
-    let n = down-counted (c .before .before .before .before .see .ensures) d (c .before .before .before .match .keys4) (c .before .before .see3 .ensures) in
+    let past-match = c .before .before .before in
+    let past-see = past-match .before in
+    let start = past-see .before .before .before in
+    let d = start .pre .doing in
+    let n = down-counted (past-see .see .ensures) d (past-match .match .keys4) (c .before .before .see3 .ensures) in
     step-room d (stepping-by (λ _. noMove) (λ (v : ℕ). noChange - v) _ n (c .before .number2 .ensures))
 
 same-length : tie.Need-same-length
@@ -77,10 +96,13 @@ same-length c = search needs
 
 returns : tie.Need-returns
 returns c =
-    let sees = c .before .before .before .before .before .before .see .ensures in
-    let is = c .before .before .before .before .enum-told .given .1 in
+    let past-enum-told = c .before .before .before .before in
+    let past-see = past-enum-told .before .before in
+    let start = past-see .before .before .before in
+    let sees = past-see .see .ensures in
+    let is = past-enum-told .enum-told .given .1 in
     let steps = c .before .before .step .ensures in
-    let d₀ = c .before .before .before .before .before .before .before .before .before .pre .doing in
+    let d₀ = start .pre .doing in
     let s₀ = up-short sees d₀ is in
     record {
       emits = λ d. step-emitted d (up-short sees d is .stepping) steps;
@@ -92,10 +114,13 @@ same-length-2 c = search needs
 
 returns-2 : tie.Need-returns-2
 returns-2 c =
-    let sees = c .before .before .before .before .before .before .see .ensures in
-    let is = c .before .before .before .before .enum-told2 .given .1 in
+    let past-enum-told2 = c .before .before .before .before in
+    let past-see = past-enum-told2 .before .before in
+    let start = past-see .before .before .before in
+    let sees = past-see .see .ensures in
+    let is = past-enum-told2 .enum-told2 .given .1 in
     let steps = c .before .before .step2 .ensures in
-    let d₀ = c .before .before .before .before .before .before .before .before .before .pre .doing in
+    let d₀ = start .pre .doing in
     let s₀ = down-short sees d₀ is in
     record {
       emits = λ d. step-emitted d (down-short sees d is .stepping) steps;
@@ -107,12 +132,17 @@ same-length-3 c = search needs
 
 returns-3 : tie.Need-returns-3
 returns-3 c =
-    let sees = c .before .before .before .before .before .before .before .before .see .ensures in
-    let is = c .before .before .before .before .before .before .enum-told3 .given .1 in
-    let more = c .before .before .before .before .before .see2 .ensures in
-    let value = c .before .before .before .before .number .ensures in
+    let past-number = c .before .before .before .before in
+    let past-see2 = past-number .before in
+    let past-enum-told3 = past-see2 .before in
+    let past-see = past-enum-told3 .before .before in
+    let start = past-see .before .before .before in
+    let sees = past-see .see .ensures in
+    let is = past-enum-told3 .enum-told3 .given .1 in
+    let more = past-see2 .see2 .ensures in
+    let value = past-number .number .ensures in
     let steps = c .before .before .step3 .ensures in
-    let d₀ = c .before .before .before .before .before .before .before .before .before .before .before .pre .doing in
+    let d₀ = start .pre .doing in
     let n₀ = up-counted sees d₀ is more in
     record {
       emits = λ d. step-emitted d (stepping-by (λ _. noMove) (λ (v : ℕ). noChange + v) _ (up-counted sees d is more) value) steps;
@@ -124,12 +154,17 @@ same-length-4 c = search needs
 
 returns-4 : tie.Need-returns-4
 returns-4 c =
-    let sees = c .before .before .before .before .before .before .before .see .ensures in
-    let other = c .before .before .before .before .before .before .match .keys4 in
-    let more = c .before .before .before .before .before .see3 .ensures in
-    let value = c .before .before .before .before .number2 .ensures in
+    let past-number2 = c .before .before .before .before in
+    let past-see3 = past-number2 .before in
+    let past-match = past-see3 .before in
+    let past-see = past-match .before in
+    let start = past-see .before .before .before in
+    let sees = past-see .see .ensures in
+    let other = past-match .match .keys4 in
+    let more = past-see3 .see3 .ensures in
+    let value = past-number2 .number2 .ensures in
     let steps = c .before .before .step4 .ensures in
-    let d₀ = c .before .before .before .before .before .before .before .before .before .before .pre .doing in
+    let d₀ = start .pre .doing in
     let n₀ = down-counted sees d₀ other more in
     record {
       emits = λ d. step-emitted d (stepping-by (λ _. noMove) (λ (v : ℕ). noChange - v) _ (down-counted sees d other more) value) steps;

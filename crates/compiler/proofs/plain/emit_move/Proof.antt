@@ -20,17 +20,29 @@ see-requires-2 : tie.Need-see-requires-2
 see-requires-2 c κs = search needs
 
 number-requires : tie.Need-number-requires
-number-requires c κs = back-counted (c .before .before .before .before .past .ensures) (c .before .before .before .see .ensures) (c .before .before .before .before .before .before .before .pre .doing) (c .before .enum-told .given .1) (c .see2 .ensures) .digits
+number-requires c κs =
+    let past-see = c .before .before .before in
+    let past-past = past-see .before in
+    let start = past-past .before .before .before in
+    back-counted (past-past .past .ensures) (past-see .see .ensures) (start .pre .doing) (c .before .enum-told .given .1) (c .see2 .ensures) .digits
 
 sub-step : tie.Need-sub-step
 sub-step c =
-    let n = back-counted (c .before .before .before .before .before .before .past .ensures) (c .before .before .before .before .before .see .ensures) (c .before .before .before .before .before .before .before .before .before .pre .doing) (c .before .before .before .enum-told .given .1) (c .before .before .see2 .ensures) in
+    let past-enum-told = c .before .before .before in
+    let past-see = past-enum-told .before .before in
+    let past-past = past-see .before in
+    let start = past-past .before .before .before in
+    let n = back-counted (past-past .past .ensures) (past-see .see .ensures) (start .pre .doing) (past-enum-told .enum-told .given .1) (c .before .before .see2 .ensures) in
     omega (arith, n .small, c .before .number .ensures)
 
 step-requires : tie.Need-step-requires
 step-requires c κs =
-    let d = c .before .before .before .before .before .before .before .before .before .pre .doing in
-    let n = back-counted (c .before .before .before .before .before .before .past .ensures) (c .before .before .before .before .before .see .ensures) d (c .before .before .before .enum-told .given .1) (c .before .before .see2 .ensures) in
+    let past-enum-told = c .before .before .before in
+    let past-see = past-enum-told .before .before in
+    let past-past = past-see .before in
+    let start = past-past .before .before .before in
+    let d = start .pre .doing in
+    let n = back-counted (past-past .past .ensures) (past-see .see .ensures) d (past-enum-told .enum-told .given .1) (c .before .before .see2 .ensures) in
     step-room d (stepping-by (λ (v : ℕ). noMove - v) (λ _. noChange) _ n (c .before .number .ensures))
 
 number-requires-2 : tie.Need-number-requires-2
@@ -38,13 +50,19 @@ number-requires-2 c κs = forward-counted (c .before .before .past .ensures) (c 
 
 add-step : tie.Need-add-step
 add-step c =
-    let n = forward-counted (c .before .before .before .before .past .ensures) (c .before .before .before .see .ensures) (c .before .before .before .before .before .before .before .pre .doing) (c .before .before .match .keys2) in
+    let past-see = c .before .before .before in
+    let past-past = past-see .before in
+    let start = past-past .before .before .before in
+    let n = forward-counted (past-past .past .ensures) (past-see .see .ensures) (start .pre .doing) (c .before .before .match .keys2) in
     omega (arith, n .small, c .before .number2 .ensures)
 
 step-requires-2 : tie.Need-step-requires-2
 step-requires-2 c κs =
-    let d = c .before .before .before .before .before .before .before .pre .doing in
-    let n = forward-counted (c .before .before .before .before .past .ensures) (c .before .before .before .see .ensures) d (c .before .before .match .keys2) in
+    let past-see = c .before .before .before in
+    let past-past = past-see .before in
+    let start = past-past .before .before .before in
+    let d = start .pre .doing in
+    let n = forward-counted (past-past .past .ensures) (past-see .see .ensures) d (c .before .before .match .keys2) in
     step-room d (stepping-by (λ (v : ℕ). noMove + v) (λ _. noChange) _ n (c .before .number2 .ensures))
 
 same-length : tie.Need-same-length
@@ -52,13 +70,19 @@ same-length c = search needs
 
 returns : tie.Need-returns
 returns c =
-    let pass = c .before .before .before .before .before .before .before .before .before .past .ensures in
-    let sees = c .before .before .before .before .before .before .before .before .see .ensures in
-    let minus = c .before .before .before .before .before .before .enum-told .given .1 in
-    let more = c .before .before .before .before .before .see2 .ensures in
-    let value = c .before .before .before .before .number .ensures in
+    let past-number = c .before .before .before .before in
+    let past-see2 = past-number .before in
+    let past-enum-told = past-see2 .before in
+    let past-see = past-enum-told .before .before in
+    let past-past = past-see .before in
+    let start = past-past .before .before .before in
+    let pass = past-past .past .ensures in
+    let sees = past-see .see .ensures in
+    let minus = past-enum-told .enum-told .given .1 in
+    let more = past-see2 .see2 .ensures in
+    let value = past-number .number .ensures in
     let steps = c .before .before .step .ensures in
-    let d₀ = c .before .before .before .before .before .before .before .before .before .before .before .before .pre .doing in
+    let d₀ = start .pre .doing in
     let n₀ = back-counted pass sees d₀ minus more in
     record {
       emits = λ d. step-emitted d (stepping-by (λ (v : ℕ). noMove - v) (λ _. noChange) _ (back-counted pass sees d minus more) value) steps;
@@ -70,12 +94,17 @@ same-length-2 c = search needs
 
 returns-2 : tie.Need-returns-2
 returns-2 c =
-    let pass = c .before .before .before .before .before .before .before .past .ensures in
-    let sees = c .before .before .before .before .before .before .see .ensures in
-    let other = c .before .before .before .before .before .match .keys2 in
-    let value = c .before .before .before .before .number2 .ensures in
+    let past-number2 = c .before .before .before .before in
+    let past-match = past-number2 .before in
+    let past-see = past-match .before in
+    let past-past = past-see .before in
+    let start = past-past .before .before .before in
+    let pass = past-past .past .ensures in
+    let sees = past-see .see .ensures in
+    let other = past-match .match .keys2 in
+    let value = past-number2 .number2 .ensures in
     let steps = c .before .before .step2 .ensures in
-    let d₀ = c .before .before .before .before .before .before .before .before .before .before .pre .doing in
+    let d₀ = start .pre .doing in
     let n₀ = forward-counted pass sees d₀ other in
     record {
       emits = λ d. step-emitted d (stepping-by (λ (v : ℕ). noMove + v) (λ _. noChange) _ (forward-counted pass sees d other) value) steps;

@@ -15,7 +15,9 @@ past-requires c κs = search needs
 
 letters-requires : tie.Need-letters-requires
 letters-requires c κs =
-    let f = letters-first (c .before .before .before .before .see .ensures) (c .before .before .enum-told .given .1) (c .past .ensures) (c .before .before .before .before .before .before .before .pre .stand) in
+    let past-see = c .before .before .before .before in
+    let start = past-see .before .before .before in
+    let f = letters-first (past-see .see .ensures) (c .before .before .enum-told .given .1) (c .past .ensures) (start .pre .stand) in
     record { ts = _; us = _; l = _; stand = f .stand }
 
 past-requires-2 : tie.Need-past-requires-2
@@ -32,7 +34,9 @@ past-requires-4 c κs = search needs
 
 letters-requires-2 : tie.Need-letters-requires-2
 letters-requires-2 c κs =
-    let f = letters-last (c .before .before .before .see .ensures) (c .before .before .match .keys2) (c .past4 .ensures) (c .before .before .before .before .before .before .pre .stand) in
+    let past-see = c .before .before .before in
+    let start = past-see .before .before .before in
+    let f = letters-last (past-see .see .ensures) (c .before .before .match .keys2) (c .past4 .ensures) (start .pre .stand) in
     record { ts = _; us = _; l = _; stand = f .stand }
 
 past-requires-5 : tie.Need-past-requires-5
@@ -46,12 +50,16 @@ same-length c = search needs
 
 returns : tie.Need-returns
 returns c =
-    let lists = c .before .before .before .before .before .letters .ensures in
-    let sees = c .before .before .before .before .before .before .before .before .before .before .see .ensures in
-    let first = c .before .before .before .before .before .before .before .before .enum-told .given .1 in
+    let past-letters = c .before .before .before .before .before in
+    let past-past = past-letters .before in
+    let past-enum-told = past-past .before .before in
+    let past-see = past-enum-told .before .before in
+    let lists = past-letters .letters .ensures in
+    let sees = past-see .see .ensures in
+    let first = past-enum-told .enum-told .given .1 in
     record {
       settles = λ a.
-          settled-first lists (letters-first sees first (c .before .before .before .before .before .before .past .ensures) a) (c .before .before .past2 .ensures) (c .before .past3 .ensures)
+          settled-first lists (letters-first sees first (past-past .past .ensures) a) (c .before .before .past2 .ensures) (c .before .past3 .ensures)
           (c .truth .ensures);
     }
 
@@ -60,12 +68,16 @@ same-length-2 c = search needs
 
 returns-2 : tie.Need-returns-2
 returns-2 c =
-    let lists = c .before .before .before .before .letters2 .ensures in
-    let sees = c .before .before .before .before .before .before .before .before .see .ensures in
-    let other = c .before .before .before .before .before .before .before .match .keys2 in
+    let past-letters2 = c .before .before .before .before in
+    let past-past4 = past-letters2 .before in
+    let past-match = past-past4 .before .before in
+    let past-see = past-match .before in
+    let lists = past-letters2 .letters2 .ensures in
+    let sees = past-see .see .ensures in
+    let other = past-match .match .keys2 in
     record {
       settles = λ a.
-          settled-last lists (letters-last sees other (c .before .before .before .before .before .past4 .ensures) a) (c .before .past5 .ensures) (c .truth2 .ensures);
+          settled-last lists (letters-last sees other (past-past4 .past4 .ensures) a) (c .before .past5 .ensures) (c .truth2 .ensures);
     }
 
 pub emit-settings-spec : {M : Type 1} → statement M

@@ -94,30 +94,36 @@ chain-way-requires : (t : ℕ) → chain-lts.Need-way-requires (chain-calls t) (
 chain-way-requires t c κs = walk-few (c .before .before .before .before .before .pre .1 .doing)
 
 -- with an operator: what is known once the course is
-looked : (t : ℕ) (c : chain-lts.After-way (chain-calls t) (chain-at t) chain.Post) → Ahead (c .before .before .before .before .before .before .args .text .now) (c .before .before .before .before .before .before .args .place .at) (c .before .before .before .before .before .before .args .or) true
+looked : (t : ℕ) (c : chain-lts.After-way (chain-calls t) (chain-at t) chain.Post) → let start = c .before .before .before .before .before .before in Ahead (start .args .text .now) (start .args .place .at) (start .args .or) true
 looked t c = subst (Ahead _ _ _) (c .before .before .if1 .taken) (c .before .before .before .operator-ahead .ensures)
 
-goes : (t : ℕ) (c : chain-lts.After-way (chain-calls t) (chain-at t) chain.Post) → Leads (takes (c .before .before .before .before .before .before .args .or) (c .before .before .before .before .before .before .args .sign)) (c .before .before .before .before .before .before .args .to) (c .before .before .before .before .before .before .args .place) (c .way .result)
-goes t c = subst (λ (b : Bool). Leads b (c .before .before .before .before .before .before .args .to) (c .before .before .before .before .before .before .args .place) (c .way .result)) (c .before .takes-state .ensures) (c .way .ensures)
+goes : (t : ℕ) (c : chain-lts.After-way (chain-calls t) (chain-at t) chain.Post) → let start = c .before .before .before .before .before .before in Leads (takes (start .args .or) (start .args .sign)) (start .args .to) (start .args .place) (c .way .result)
+goes t c =
+    let start = c .before .before .before .before .before .before in
+    subst (λ (b : Bool). Leads b (start .args .to) (start .args .place) (c .way .result)) (c .before .takes-state .ensures) (c .way .ensures)
 
 chain-side-requires : (t : ℕ) → chain-lts.Need-side-requires (chain-calls t) (chain-at t) chain.Post
-chain-side-requires t c κs = (
-  omega (arith, rank-falls (c .before .before .before .before .before .before .before .args .or), c .before .before .before .before .before .before .before .pre .0),
-  let d = c .before .before .before .before .before .before .before .pre .1 .doing in
-      ready (before-operator (goes t (c .before)) d (sides-here (looked t (c .before)) d)),
-)
+chain-side-requires t c κs =
+    let start = c .before .before .before .before .before .before .before in (
+      omega (arith, rank-falls (start .args .or), start .pre .0),
+      let d = start .pre .1 .doing in
+          ready (before-operator (goes t (c .before)) d (sides-here (looked t (c .before)) d)),
+    )
 
 chain-past-requires : (t : ℕ) → chain-lts.Need-past-requires (chain-calls t) (chain-at t) chain.Post
 chain-past-requires t c κs = search needs
 
 chain-chain-requires : (t : ℕ) → chain-lts.Need-chain-requires (chain-calls t) (chain-at t) chain.Post
 chain-chain-requires t c κs =
-    let d = c .before .before .before .before .before .before .before .before .before .before .before .before .pre .1 .doing in
-    let g = goes t (c .before .before .before .before .before .before) in
-    let s = sides-here (looked t (c .before .before .before .before .before .before)) d in
-    let e = c .before .before .before .before .side .ensures .emits (before-operator g d s) in
+    let past-side = c .before .before .before .before in
+    let past-way = past-side .before .before in
+    let start = past-way .before .before .before .before .before .before in
+    let d = start .pre .1 .doing in
+    let g = goes t past-way in
+    let s = sides-here (looked t past-way) d in
+    let e = past-side .side .ensures .emits (before-operator g d s) in
     let pass = c .before .past .ensures in (
-      omega (arith, c .before .before .before .before .before .before .before .before .before .before .before .before .pre .0, c .before .before .before .before .side .ensures .onward, operator-onward g d s e pass, walk-some d),
+      omega (arith, start .pre .0, past-side .side .ensures .onward, operator-onward g d s e pass, walk-some d),
       ready (behind-operator g d s e pass),
     )
 
@@ -125,16 +131,22 @@ chain-side-requires-2 : (t : ℕ) → chain-lts.Need-side-requires-2 (chain-call
 chain-side-requires-2 t c κs = (omega (arith, rank-falls (c .before .before .before .before .before .args .or), c .before .before .before .before .before .pre .0), ready (side-doing (subst (Ahead _ _ _) (c .before .if1 .left) (c .before .before .operator-ahead .ensures)) (c .before .before .before .before .before .pre .1 .doing)))
 
 chain-same-length : (t : ℕ) → chain-lts.Need-same-length (chain-calls t) (chain-at t) chain.Post
-chain-same-length t c = c .before .before .chain .kept .1 .0 ∙ c .before .before .before .before .before .before .before .side .kept .1 .0
+chain-same-length t c =
+    let past-side = c .before .before .before .before .before .before .before in
+    c .before .before .chain .kept .1 .0 ∙ past-side .side .kept .1 .0
 
 chain-returns : (t : ℕ) → chain-lts.Need-returns (chain-calls t) (chain-at t) chain.Post
 chain-returns t c =
-    let l = looked t (c .before .before .before .before .before .before .before .before .before) in
-    let g = goes t (c .before .before .before .before .before .before .before .before .before) in
-    let pass = c .before .before .before .before .past .ensures in
-    let first = c .before .before .before .before .before .before .before .side .ensures in
+    let past-past = c .before .before .before .before in
+    let past-side = past-past .before .before .before in
+    let past-way = past-side .before .before in
+    let start = past-way .before .before .before .before .before .before in
+    let l = looked t past-way in
+    let g = goes t past-way in
+    let pass = past-past .past .ensures in
+    let first = past-side .side .ensures in
     let last = c .before .before .chain .ensures in
-    let d₀ = c .before .before .before .before .before .before .before .before .before .before .before .before .before .before .before .pre .1 .doing in
+    let d₀ = start .pre .1 .doing in
     let s₀ = sides-here l d₀ in
     record {
       emits = λ d.
@@ -160,20 +172,24 @@ operand-enum-told t c = search needs
 
 operand-operand-requires : (t : ℕ) → operand-lts.Need-operand-requires (operand-calls t) (operand-at t) operand.Post
 operand-operand-requires t c κs =
-    let sees = c .before .before .before .see .ensures in
-    let d = c .before .before .before .before .before .before .pre .1 .doing in
+    let past-see = c .before .before .before in
+    let start = past-see .before .before .before in
+    let sees = past-see .see .ensures in
+    let d = start .pre .1 .doing in
     let is = c .before .enum-told .given .1 in
-    (omega (arith, c .before .before .before .before .before .before .pre .0, sign-onward sees d Sign.Not tt is, walk-some d), ready (negation-doing sees d is))
+    (omega (arith, start .pre .0, sign-onward sees d Sign.Not tt is, walk-some d), ready (negation-doing sees d is))
 
 operand-enum-told-2 : (t : ℕ) → operand-lts.Need-enum-told-2 (operand-calls t) (operand-at t) operand.Post
 operand-enum-told-2 t c = search needs
 
 operand-chain-requires : (t : ℕ) → operand-lts.Need-chain-requires (operand-calls t) (operand-at t) operand.Post
 operand-chain-requires t c κs =
-    let sees = c .before .before .before .see .ensures in
-    let d = c .before .before .before .before .before .before .pre .1 .doing in
+    let past-see = c .before .before .before in
+    let start = past-see .before .before .before in
+    let sees = past-see .see .ensures in
+    let d = start .pre .1 .doing in
     let is = c .before .enum-told2 .given .1 in
-    (omega (arith, c .before .before .before .before .before .before .pre .0, sign-onward sees d Sign.OpenParen tt is, walk-some d), ready (parens-doing sees d is))
+    (omega (arith, start .pre .0, sign-onward sees d Sign.OpenParen tt is, walk-some d), ready (parens-doing sees d is))
 
 operand-past-requires : (t : ℕ) → operand-lts.Need-past-requires (operand-calls t) (operand-at t) operand.Post
 operand-past-requires t c κs = search needs
@@ -186,12 +202,15 @@ operand-same-length t c = c .before .before .operand .kept .1 .0
 
 operand-returns : (t : ℕ) → operand-lts.Need-returns (operand-calls t) (operand-at t) operand.Post
 operand-returns t c =
-    let sees = c .before .before .before .before .before .before .see .ensures in
-    let is = c .before .before .before .before .enum-told .given .1 in
+    let past-enum-told = c .before .before .before .before in
+    let past-see = past-enum-told .before .before in
+    let start = past-see .before .before .before in
+    let sees = past-see .see .ensures in
+    let is = past-enum-told .enum-told .given .1 in
     let inner = c .before .before .operand .ensures in
     record {
       emits = λ d. inner .emits (negation-doing sees d is);
-      onward = omega (arith, sign-onward sees (c .before .before .before .before .before .before .before .before .before .pre .1 .doing) Sign.Not tt is, inner .onward);
+      onward = omega (arith, sign-onward sees (start .pre .1 .doing) Sign.Not tt is, inner .onward);
     }
 
 operand-same-length-2 : (t : ℕ) → operand-lts.Need-same-length-2 (operand-calls t) (operand-at t) operand.Post
@@ -199,11 +218,15 @@ operand-same-length-2 t c = c .before .before .before .chain .kept .1 .0
 
 operand-returns-2 : (t : ℕ) → operand-lts.Need-returns-2 (operand-calls t) (operand-at t) operand.Post
 operand-returns-2 t c =
-    let sees = c .before .before .before .before .before .before .before .see .ensures in
-    let is = c .before .before .before .before .before .enum-told2 .given .1 in
-    let inner = c .before .before .before .chain .ensures in
+    let past-chain = c .before .before .before in
+    let past-enum-told2 = past-chain .before .before in
+    let past-see = past-enum-told2 .before .before in
+    let start = past-see .before .before .before in
+    let sees = past-see .see .ensures in
+    let is = past-enum-told2 .enum-told2 .given .1 in
+    let inner = past-chain .chain .ensures in
     let pass = c .past .ensures in
-    let d₀ = c .before .before .before .before .before .before .before .before .before .before .pre .1 .doing in
+    let d₀ = start .pre .1 .doing in
     record {
       emits = λ d. emitted-past (inner .emits (parens-doing sees d is)) pass;
       onward =

@@ -19,20 +19,25 @@ returns c = record { emits = λ d. absurd (atom-not-refused d (c .before .before
 
 rows-requires : tie.Need-rows-requires
 rows-requires c κs =
-    let d = c .before .before .before .before .before .before .before .pre .doing in
+    let past-atom-at = c .before .before .before .before in
+    let start = past-atom-at .before .before .before in
+    let d = start .pre .doing in
     let states = atom-states d in
-    (atom-room d (c .before .before .before .before .atom-at .ensures) _ _ (c .before .before .read .given .1), states .0, states .1)
+    (atom-room d (past-atom-at .atom-at .ensures) _ _ (c .before .before .read .given .1), states .0, states .1)
 
 same-length : tie.Need-same-length
 same-length c = search needs
 
 returns-2 : tie.Need-returns-2
 returns-2 c =
-    let reads = c .before .before .before .before .before .before .before .atom-at .ensures in
-    let is = c .before .before .before .before .before .read .given .1 in
+    let past-read = c .before .before .before .before .before in
+    let past-atom-at = past-read .before .before in
+    let start = past-atom-at .before .before .before in
+    let reads = past-atom-at .atom-at .ensures in
+    let is = past-read .read .given .1 in
     record {
       emits = λ d. atom-emits d reads _ _ is (c .before .before .rows .ensures);
-      onward = atom-onward (c .before .before .before .before .before .before .before .before .before .before .pre .doing) reads _ _ is;
+      onward = atom-onward (start .pre .doing) reads _ _ is;
     }
 
 pub atom-spec : {M : Type 1} → statement M

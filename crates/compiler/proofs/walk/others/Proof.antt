@@ -32,16 +32,27 @@ nth-requires : tie.Need-nth-requires Inv-loop μ-loop
 nth-requires c κs = omega (arith, few (c .before .before))
 
 unless-requires : tie.Need-unless-requires Inv-loop μ-loop
-unless-requires c κs = (partly-room _ _ _ (c .before .before .before .loop .inv .2) (c .before .before .before .before .before .before .before .pre .0) _ _ (c .before .before .before .before .letters .ensures) (c .before .before .loop-test .taken) (c .before .nth .ensures), c .before .before .before .before .before .before .before .pre .1, c .before .before .before .before .before .before .before .pre .2)
+unless-requires c κs =
+    let past-loop = c .before .before .before in
+    let past-letters = past-loop .before in
+    let start = past-letters .before .before .before in
+    (partly-room _ _ _ (past-loop .loop .inv .2) (start .pre .0) _ _ (past-letters .letters .ensures) (c .before .before .loop-test .taken) (c .before .nth .ensures), start .pre .1, start .pre .2)
 
 add-i : tie.Need-add-i Inv-loop μ-loop
-add-i c = omega (arith, few (c .before .before .before .before .before .before .before))
+add-i c =
+    let past-letters = c .before .before .before .before .before .before .before in
+    omega (arith, few past-letters)
 
 loop-less : tie.Need-loop-less Inv-loop μ-loop
 loop-less c = omega arith
 
 loop-again : tie.Need-loop-again Inv-loop μ-loop
-loop-again c = (omega arith, c .before .before .unless .kept .0 ∙ c .before .before .before .before .before .before .loop .inv .1, partly-more _ _ _ (c .before .before .before .before .before .before .loop .inv .2) _ _ _ _ (c .before .before .before .before .before .before .before .letters .ensures) (c .before .before .before .before .before .loop-test .taken) (c .before .before .before .before .nth .ensures) (c .before .before .unless .ensures))
+loop-again c =
+    let past-nth = c .before .before .before .before in
+    let past-loop-test = past-nth .before in
+    let past-loop = past-loop-test .before in
+    let past-letters = past-loop .before in
+    (omega arith, c .before .before .unless .kept .0 ∙ past-loop .loop .inv .1, partly-more _ _ _ (past-loop .loop .inv .2) _ _ _ _ (past-letters .letters .ensures) (past-loop-test .loop-test .taken) (past-nth .nth .ensures) (c .before .before .unless .ensures))
 
 same-length : tie.Need-same-length Inv-loop μ-loop
 same-length c = c .before .loop .inv .1

@@ -14,9 +14,12 @@ chain-requires c κs = ready (holding-doing (c .before .past .ensures) (c .befor
 
 chain-requires-2 : tie.Need-chain-requires-2
 chain-requires-2 c κs =
-    let enters = c .before .before .before .before .before .past .ensures in
-    let d = c .before .before .before .before .before .before .before .before .pre .doing in
-    ready (failing-doing enters d (c .before .before .before .chain .ensures .emits (holding-doing enters d)))
+    let past-chain = c .before .before .before in
+    let past-past = past-chain .before .before in
+    let start = past-past .before .before .before in
+    let enters = past-past .past .ensures in
+    let d = start .pre .doing in
+    ready (failing-doing enters d (past-chain .chain .ensures .emits (holding-doing enters d)))
 
 past-requires-2 : tie.Need-past-requires-2
 past-requires-2 c κs = search needs
@@ -26,11 +29,15 @@ same-length c = search needs
 
 returns : tie.Need-returns
 returns c =
-    let enters = c .before .before .before .before .before .before .before .before .before .past .ensures in
-    let holding = c .before .before .before .before .before .before .before .chain .ensures in
-    let failing = c .before .before .before .chain2 .ensures in
+    let past-chain2 = c .before .before .before in
+    let past-chain = past-chain2 .before .before .before .before in
+    let past-past = past-chain .before .before in
+    let start = past-past .before .before .before in
+    let enters = past-past .past .ensures in
+    let holding = past-chain .chain .ensures in
+    let failing = past-chain2 .chain2 .ensures in
     let leaves = c .past2 .ensures in
-    let d₀ = c .before .before .before .before .before .before .before .before .before .before .before .before .pre .doing in
+    let d₀ = start .pre .doing in
     record {
       emits = λ d. tests-emitted enters d (failing .emits (failing-doing enters d (holding .emits (holding-doing enters d)))) leaves;
       onward =

@@ -44,7 +44,15 @@ same-length c = search needs
 
 returns : tie.Need-returns
 returns c =
-    heads _ _ _ _ _ _ _ _ _ _ (c .before .before .before .before .before .before .before .before .before .before .before .before .before .before .before .before .before .pre) (c .before .before .before .before .before .before .before .before .before .before .before .before .before .before .before .low .ensures) (c .before .before .before .before .before .before .before .before .before .flag-of .ensures) (c .before .before .before .before .before .before .before .before .high .ensures) (c .before .before .before .before .before .before .before .low2 .ensures) (c .before .before .before .before .before .before .high2 .ensures) (c .before .before .before .before .before .low3 .ensures) (c .before .before .before .before .before .before .before .before .before .before .before .before .put .ensures) (c .before .before .put2 .ensures)
+    let past-low3 = c .before .before .before .before .before in
+    let past-high2 = past-low3 .before in
+    let past-low2 = past-high2 .before in
+    let past-high = past-low2 .before in
+    let past-flag-of = past-high .before in
+    let past-put = past-flag-of .before .before .before in
+    let past-low = past-put .before .before .before in
+    let start = past-low .before .before in
+    heads _ _ _ _ _ _ _ _ _ _ (start .pre) (past-low .low .ensures) (past-flag-of .flag-of .ensures) (past-high .high .ensures) (past-low2 .low2 .ensures) (past-high2 .high2 .ensures) (past-low3 .low3 .ensures) (past-put .put .ensures) (c .before .before .put2 .ensures)
 
 pub header-spec : {M : Type 1} → statement M
 header-spec =

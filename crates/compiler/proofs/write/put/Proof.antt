@@ -21,7 +21,8 @@ same-length c = search needs
 
 returns : tie.Need-returns
 returns c =
-    put-over (c .before .before .before .before .before .before .args .out .now) (c .before .before .before .before .before .before .args .bytes .now) _ _ _ (c .before .before .before .before .before .before .pre) refl (c .before .before .copy .ensures .1)
+    let start = c .before .before .before .before .before .before in
+    put-over (start .args .out .now) (start .args .bytes .now) _ _ _ (start .pre) refl (c .before .before .copy .ensures .1)
 
 pub put-spec : {M : Type 1} → statement M
 put-spec =

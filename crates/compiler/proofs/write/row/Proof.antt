@@ -21,17 +21,25 @@ slice-aggregate-put : tie.Need-slice-aggregate-put
 slice-aggregate-put c = search needs
 
 put-requires : tie.Need-put-requires
-put-requires c κs = omega (arith, room-one (c .before .before .before .before .before .before .before .pre .0))
+put-requires c κs =
+    let start = c .before .before .before .before .before .before .before in
+    omega (arith, room-one (start .pre .0))
 
 add-result : tie.Need-add-result
-add-result c = omega (arith, room-one (c .before .before .before .before .before .before .before .before .before .before .pre .0), c .before .before .before .before .before .before .before .before .before .before .good)
+add-result c =
+    let start = c .before .before .before .before .before .before .before .before .before .before in
+    omega (arith, room-one (start .pre .0), start .good)
 
 same-length : tie.Need-same-length
 same-length c = search needs
 
 returns : tie.Need-returns
 returns c =
-    writes-row _ _ (row-bytes _ _ _ _ _ _ _ _ _ _ (c .before .before .before .before .before .before .before .before .high .ensures) (c .before .before .before .before .before .before .before .low .ensures) (c .before .before .before .before .before .before .high2 .ensures) (c .before .before .before .before .before .low2 .ensures)) (c .before .before .put .ensures) refl
+    let past-low2 = c .before .before .before .before .before in
+    let past-high2 = past-low2 .before in
+    let past-low = past-high2 .before in
+    let past-high = past-low .before in
+    writes-row _ _ (row-bytes _ _ _ _ _ _ _ _ _ _ (past-high .high .ensures) (past-low .low .ensures) (past-high2 .high2 .ensures) (past-low2 .low2 .ensures)) (c .before .before .put .ensures) refl
 
 pub row-spec : {M : Type 1} → statement M
 row-spec =

@@ -35,31 +35,43 @@ seen-requires c κs = search needs
 
 loop-holds : tie.Need-loop-holds Inv-loop μ-loop
 loop-holds c =
-    let w = c .before .before .before .before .before .before .before .before .before .before .pre in
-    let e = c .before .before .before .before .clear-bit .ensures in
+    let past-clear-bit = c .before .before .before .before in
+    let start = past-clear-bit .before .before .before .before .before .before in
+    let w = start .pre in
+    let e = past-clear-bit .clear-bit .ensures in
     let a = c .before .rows-of .ensures in
     (omega arith, expand-begins w e a, expand-followed w e a, same-keeps, sym (range-first _))
 
 visit-requires : tie.Need-visit-requires Inv-loop μ-loop
 visit-requires c κs =
-    let l = c .before .before .before .loop .inv in
-    let w = c .before .before .before .before .before .before .before .before .before .before .before .before .before .before .pre in
+    let past-loop = c .before .before .before in
+    let past-seen = past-loop .before in
+    let past-rows-of = past-seen .before in
+    let past-clear-bit = past-rows-of .before .before .before in
+    let start = past-clear-bit .before .before .before .before .before .before in
+    let l = past-loop .loop .inv in
+    let w = start .pre in
     record {
       row = record {
         search = l .1;
         low = w .low;
         followed = l .2;
-        shows = expand-shows w (c .before .before .before .before .before .before .before .before .clear-bit .ensures) (c .before .before .before .before .before .rows-of .ensures);
+        shows = expand-shows w (past-clear-bit .clear-bit .ensures) (past-rows-of .rows-of .ensures);
         few = c .before .before .loop-test .taken;
         place = l .4;
       };
-      sees = c .before .before .before .before .seen .ensures;
+      sees = past-seen .seen .ensures;
     }
 
 add-at : tie.Need-add-at Inv-loop μ-loop
 add-at c =
-    let l = c .before .before .before .before .before .before .loop .inv in
-    omega (arith, expand-inside (c .before .before .before .before .before .before .before .before .before .before .before .before .before .before .before .before .before .pre) (c .before .before .before .before .before .before .before .before .before .before .before .clear-bit .ensures) (c .before .before .before .before .before .before .before .before .rows-of .ensures) _ (l .4) (c .before .before .before .before .before .loop-test .taken), c .before .before .before .before .before .before .before .before .before .before .before .before .before .before .before .before .before .good .1 .0 .0)
+    let past-loop-test = c .before .before .before .before .before in
+    let past-loop = past-loop-test .before in
+    let past-rows-of = past-loop .before .before in
+    let past-clear-bit = past-rows-of .before .before .before in
+    let start = past-clear-bit .before .before .before .before .before .before in
+    let l = past-loop .loop .inv in
+    omega (arith, expand-inside (start .pre) (past-clear-bit .clear-bit .ensures) (past-rows-of .rows-of .ensures) _ (l .4) (past-loop-test .loop-test .taken), start .good .1 .0 .0)
 
 add-j : tie.Need-add-j Inv-loop μ-loop
 add-j c = omega arith
@@ -69,18 +81,25 @@ loop-less c = omega arith
 
 loop-again : tie.Need-loop-again Inv-loop μ-loop
 loop-again c =
+    let past-loop = c .before .before .before .before .before .before in
+    let start = past-loop .before .before .before .before .before .before .before .before .before .before .before in
     let f = c .before .before .visit .ensures in
-    let l = c .before .before .before .before .before .before .loop .inv in
-    let low = c .before .before .before .before .before .before .before .before .before .before .before .before .before .before .before .before .before .pre .low in
+    let l = past-loop .loop .inv in
+    let low = start .pre .low in
     (omega arith, f .search, f .keeps _ low (l .2), λ k lowk was. f .keeps k lowk (l .3 k lowk was), place-again _ _ (l .4) refl)
 
 same-length : tie.Need-same-length Inv-loop μ-loop
-same-length c = c .before .loop .inv .1 .room ∙ sym (c .before .before .before .before .before .before .before .before .before .before .before .before .pre .between .room)
+same-length c =
+    let start = c .before .before .before .before .before .before .before .before .before .before .before .before in
+    c .before .loop .inv .1 .room ∙ sym (start .pre .between .room)
 
 returns : tie.Need-returns Inv-loop μ-loop
 returns c =
+    let past-rows-of = c .before .before .before in
+    let past-clear-bit = past-rows-of .before .before .before in
+    let start = past-clear-bit .before .before .before .before .before .before in
     let l = c .before .loop .inv in
-    expand-ends (c .before .before .before .before .before .before .before .before .before .before .before .before .pre) (c .before .before .before .before .before .before .clear-bit .ensures) (c .before .before .before .rows-of .ensures) _ (c .loop-test .left) (l .1) (l .2) (l .3)
+    expand-ends (start .pre) (past-clear-bit .clear-bit .ensures) (past-rows-of .rows-of .ensures) _ (c .loop-test .left) (l .1) (l .2) (l .3)
 
 pub expand-spec : {M : Type 1} → statement M
 expand-spec =

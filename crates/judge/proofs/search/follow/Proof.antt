@@ -17,7 +17,9 @@ suits-requires : tie.Need-suits-requires
 suits-requires c κs = search needs
 
 returns : tie.Need-returns
-returns c = followed-unfit (c .before .before .before .before .before .before .before .pre) _ (c .before .before .row-here .ensures) (sym (c .before .suits .ensures) ∙ not-true _ (c .if1 .taken))
+returns c =
+    let start = c .before .before .before .before .before .before .before in
+    followed-unfit (start .pre) _ (c .before .before .row-here .ensures) (sym (c .before .suits .ensures) ∙ not-true _ (c .if1 .taken))
 
 step-requires : tie.Need-step-requires
 step-requires c κs = search needs
@@ -30,8 +32,10 @@ below
     : (c : tie.After-known-told)
     → (c .before .before .before .before .before .before .row-here .result .to * 64 + c .before .outcome .given .0 .0) * 32 + c .before .outcome .given .0 .1 .0 < situations
 below c =
-    let a = c .before .before .before .before in
-    goes-below (a .before .before .before .before .before .before .before .pre) _ (a .before .before .row-here .ensures) _ (c .before .before .before .step .ensures) _ _ (c .before .outcome .given .1)
+    let past-step = c .before .before .before in
+    let past-row-here = past-step .before .before .before in
+    let start = past-row-here .before .before .before .before .before in
+    goes-below (start .pre) _ (past-row-here .row-here .ensures) _ (past-step .step .ensures) _ _ (c .before .outcome .given .1)
 
 mul-mark : tie.Need-mul-mark
 mul-mark c = omega (arith, below c)
@@ -59,18 +63,23 @@ same-length c = search needs
 
 returns-2 : tie.Need-returns-2
 returns-2 c =
-    let a = c .before .before .before .before .before .before .before .before .before in
-    followed-goes (a .before .before .before .before .before .before .before .pre) _ (a .before .before .row-here .ensures) _ (c .before .before .before .before .before .before .before .before .step .ensures) _ _ (c .before .before .before .before .before .before .outcome .given .1) _ (c .before .before .mark .ensures)
+    let past-outcome = c .before .before .before .before .before .before in
+    let past-step = past-outcome .before .before in
+    let past-row-here = past-step .before .before .before in
+    let start = past-row-here .before .before .before .before .before in
+    followed-goes (start .pre) _ (past-row-here .row-here .ensures) _ (past-step .step .ensures) _ _ (past-outcome .outcome .given .1) _ (c .before .before .mark .ensures)
 
 returns-3 : tie.Need-returns-3
 returns-3 c =
-    let a = c .before .before .before in
-    followed-blocked (a .before .before .before .before .before .before .before .pre) _ (a .before .before .row-here .ensures) _ (c .before .before .step .ensures) (c .enum-told .given .1)
+    let past-row-here = c .before .before .before .before .before in
+    let start = past-row-here .before .before .before .before .before in
+    followed-blocked (start .pre) _ (past-row-here .row-here .ensures) _ (c .before .before .step .ensures) (c .enum-told .given .1)
 
 returns-4 : tie.Need-returns-4
 returns-4 c =
-    let a = c .before .before .before in
-    followed-above (a .before .before .before .before .before .before .before .pre) _ (a .before .before .row-here .ensures) _ (c .before .before .step .ensures) (c .enum-told2 .given .1)
+    let past-row-here = c .before .before .before .before .before in
+    let start = past-row-here .before .before .before .before .before in
+    followed-above (start .pre) _ (past-row-here .row-here .ensures) _ (c .before .before .step .ensures) (c .enum-told2 .given .1)
 
 pub follow-spec : {M : Type 1} → statement M
 follow-spec =

@@ -20,25 +20,36 @@ mark-requires : tie.Need-mark-requires Inv-loop μ-loop
 mark-requires c κs = omega arith
 
 loop-holds : tie.Need-loop-holds Inv-loop μ-loop
-loop-holds c = begins-between (c .before .before .before .before .before .before .before .before .before .pre) (c .before .before .mark .ensures)
+loop-holds c =
+    let start = c .before .before .before .before .before .before .before .before .before in
+    begins-between (start .pre) (c .before .before .mark .ensures)
 
 pick-requires : tie.Need-pick-requires Inv-loop μ-loop
 pick-requires c κs = c .before .before .loop .inv .room
 
 same-length : tie.Need-same-length Inv-loop μ-loop
-same-length c = c .before .before .before .before .loop .inv .room ∙ sym (c .before .before .before .before .before .before .before .before .before .before .before .before .before .before .pre .room)
+same-length c =
+    let past-loop = c .before .before .before .before in
+    let start = past-loop .before .before .before .before .before .before .before .before .before .before in
+    past-loop .loop .inv .room ∙ sym (start .pre .room)
 
 returns : tie.Need-returns Inv-loop μ-loop
 returns c = picked-none (c .before .before .before .before .loop .inv) (c .before .pick .ensures) (c .if1 .taken)
 
 expand-requires : tie.Need-expand-requires Inv-loop μ-loop
 expand-requires c κs =
-    picked-waiting (c .before .before .before .before .before .before .before .before .before .before .before .before .before .before .before .before .pre .sources) (c .before .before .before .before .before .before .loop .inv) (c .before .before .before .pick .ensures) (c .before .before .if1 .left)
+    let past-pick = c .before .before .before in
+    let past-loop = past-pick .before .before .before in
+    let start = past-loop .before .before .before .before .before .before .before .before .before .before in
+    picked-waiting (start .pre .sources) (past-loop .loop .inv) (past-pick .pick .ensures) (c .before .before .if1 .left)
 
 loop-less : tie.Need-loop-less Inv-loop μ-loop
 loop-less c =
     let a = c .before .before .before .before .before in
-    expand-falls (picked-waiting (a .before .before .before .before .before .before .before .before .before .before .before .before .before .before .pre .sources) (a .before .before .before .before .loop .inv) (a .before .pick .ensures) (a .if1 .left)) (c .before .before .expand .ensures)
+    let past-pick = a .before in
+    let past-loop = past-pick .before .before .before in
+    let start = past-loop .before .before .before .before .before .before .before .before .before .before in
+    expand-falls (picked-waiting (start .pre .sources) (past-loop .loop .inv) (past-pick .pick .ensures) (a .if1 .left)) (c .before .before .expand .ensures)
 
 loop-again : tie.Need-loop-again Inv-loop μ-loop
 loop-again c = c .before .before .expand .ensures .between

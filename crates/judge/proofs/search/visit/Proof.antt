@@ -9,7 +9,10 @@ leaves-requires : tie.Need-leaves-requires
 leaves-requires c κs = search needs
 
 follow-requires : tie.Need-follow-requires
-follow-requires c κs = followed-here (c .before .before .before .before .before .before .before .before .pre) (sym (c .before .before .before .leaves .ensures) ∙ c .before .before .if1 .taken)
+follow-requires c κs =
+    let past-leaves = c .before .before .before in
+    let start = past-leaves .before .before .before .before .before in
+    followed-here (start .pre) (sym (past-leaves .leaves .ensures) ∙ c .before .before .if1 .taken)
 
 same-length : tie.Need-same-length
 same-length c = search needs
@@ -18,7 +21,9 @@ returns : tie.Need-returns
 returns c = search needs
 
 returns-2 : tie.Need-returns-2
-returns-2 c = followed-other (c .before .before .before .before .before .before .pre .row) (sym (c .before .leaves .ensures) ∙ c .if1 .left)
+returns-2 c =
+    let start = c .before .before .before .before .before .before in
+    followed-other (start .pre .row) (sym (c .before .leaves .ensures) ∙ c .if1 .left)
 
 pub visit-spec : {M : Type 1} → statement M
 visit-spec = tie.close (tie.spec leaves-requires follow-requires same-length returns returns-2)

@@ -17,12 +17,14 @@ number-requires c κs = omega (arith, c .before .before .before .add .ensures .e
 
 number-requires-2 : tie.Need-number-requires-2
 number-requires-2 c κs =
+    let past-number = c .before .before .before in
+    let past-add = past-number .before .before .before .before in
     omega (
       arith,
-      c .before .before .before .before .before .before .before .add .ensures .ends,
-      c .before .before .before .before .before .before .before .add .kept .0,
-      number-short _ _ (c .before .before .before .number .ensures),
-      c .before .before .before .number .kept .0,
+      past-add .add .ensures .ends,
+      past-add .add .kept .0,
+      number-short _ _ (past-number .number .ensures),
+      past-number .number .kept .0,
     )
 
 same-length : tie.Need-same-length
@@ -30,9 +32,11 @@ same-length c = search needs
 
 returns : tie.Need-returns
 returns c =
+    let past-number = c .before .before .before .before .before .before in
+    let past-add = past-number .before .before .before .before in
     adds-stands
     (adds-as
-    (adds-both (c .before .before .before .before .before .before .before .before .before .before .add .ensures) (adds-both (c .before .before .before .before .before .before .number .ensures) (c .before .before .number2 .ensures)))
+    (adds-both (past-add .add .ensures) (adds-both (past-number .number .ensures) (c .before .before .number2 .ensures)))
     (compile-refused-line _ _))
 
 pub refused-spec : {M : Type 1} → statement M

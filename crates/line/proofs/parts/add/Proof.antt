@@ -26,9 +26,10 @@ same-length c = search needs
 
 returns : tie.Need-returns
 returns c =
-    let out = c .before .before .before .before .before .before .args .out .now in
-    let bytes = c .before .before .before .before .before .before .args .bytes .now in
-    adds-over bytes (put-over out bytes _ _ _ (c .before .before .before .before .before .before .pre) refl (c .before .before .copy .ensures .1)) refl
+    let start = c .before .before .before .before .before .before in
+    let out = start .args .out .now in
+    let bytes = start .args .bytes .now in
+    adds-over bytes (put-over out bytes _ _ _ (start .pre) refl (c .before .before .copy .ensures .1)) refl
 
 pub add-spec : {M : Type 1} → statement M
 add-spec =

@@ -28,15 +28,19 @@ slice-aggregate-add-2 : tie.Need-slice-aggregate-add-2
 slice-aggregate-add-2 c = search needs
 
 add-requires-2 : tie.Need-add-requires-2
-add-requires-2 c κs = omega (arith, short (c .before .before .before .before .before .before .before), c .before .before .before .before .add .ensures .ends, c .before .before .before .before .add .kept .0, c .before .before .before .before .before .before .before .decimal .ensures .0 .1)
+add-requires-2 c κs =
+    let past-add = c .before .before .before .before in
+    let past-decimal = past-add .before .before .before in
+    omega (arith, short past-decimal, past-add .add .ensures .ends, past-add .add .kept .0, past-decimal .decimal .ensures .0 .1)
 
 same-length : tie.Need-same-length
 same-length c = search needs
 
 returns : tie.Need-returns
 returns c =
-    let d = c .before .before .before .before .before .before .before .before .before .before in
-    adds-both (adds-as (c .before .before .before .before .before .before .before .add .ensures) (d .decimal .ensures .1 .1 ∙ decimal-is _ _ (d .decimal .ensures .1 .0) (short d))) (c .before .before .add2 .ensures)
+    let past-add = c .before .before .before .before .before .before .before in
+    let d = past-add .before .before .before in
+    adds-both (adds-as (past-add .add .ensures) (d .decimal .ensures .1 .1 ∙ decimal-is _ _ (d .decimal .ensures .1 .0) (short d))) (c .before .before .add2 .ensures)
 
 pub number-spec : {M : Type 1} → statement M
 number-spec =

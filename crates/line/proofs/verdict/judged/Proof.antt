@@ -14,7 +14,9 @@ same-length : tie.Need-same-length
 same-length c = search needs
 
 returns : tie.Need-returns
-returns c = adds-stands (adds-both (c .before .before .before .before .before .before .add .ensures) (c .before .before .number .ensures))
+returns c =
+    let past-add = c .before .before .before .before .before .before in
+    adds-stands (adds-both (past-add .add .ensures) (c .before .before .number .ensures))
 
 pub judged-spec : {M : Type 1} → statement M
 judged-spec = tie.close (tie.spec add-requires number-requires same-length returns)

@@ -72,7 +72,12 @@ same-length-5 : tie.Need-same-length-5
 same-length-5 c = search needs
 
 returns-5 : tie.Need-returns-5
-returns-5 c = adds-as (c .before .before .add5 .ensures) (ap (λ (l : List ℕ). l ++ spelling "\n") (sym (meaning-last _ (c .before .before .before .before .before .before .before .before .if1 .left) (c .before .before .before .before .before .before .before .if2 .left) (c .before .before .before .before .before .before .if3 .left) (c .before .before .before .before .before .if4 .left))))
+returns-5 c =
+    let past-if4 = c .before .before .before .before .before in
+    let past-if3 = past-if4 .before in
+    let past-if2 = past-if3 .before in
+    let past-if1 = past-if2 .before in
+    adds-as (c .before .before .add5 .ensures) (ap (λ (l : List ℕ). l ++ spelling "\n") (sym (meaning-last _ (past-if1 .if1 .left) (past-if2 .if2 .left) (past-if3 .if3 .left) (past-if4 .if4 .left))))
 
 pub meaning-spec : {M : Type 1} → statement M
 meaning-spec =

@@ -17,24 +17,29 @@ number-requires c κs = search needs
 
 number-requires-2 : tie.Need-number-requires-2
 number-requires-2 c κs =
+    let past-number = c .before .before .before in
+    let past-add = past-number .before .before .before .before in
     omega (
       arith,
-      c .before .before .before .before .before .before .before .add .ensures .ends,
-      c .before .before .before .before .before .before .before .add .kept .0,
-      number-short _ _ (c .before .before .before .number .ensures),
-      c .before .before .before .number .kept .0,
+      past-add .add .ensures .ends,
+      past-add .add .kept .0,
+      number-short _ _ (past-number .number .ensures),
+      past-number .number .kept .0,
     )
 
 meaning-requires : tie.Need-meaning-requires
 meaning-requires c κs =
+    let past-number2 = c .before .before .before in
+    let past-number = past-number2 .before .before .before .before in
+    let past-add = past-number .before .before .before .before in
     omega (
       arith,
-      c .before .before .before .before .before .before .before .before .before .before .before .add .ensures .ends,
-      c .before .before .before .before .before .before .before .before .before .before .before .add .kept .0,
-      number-short _ _ (c .before .before .before .before .before .before .before .number .ensures),
-      c .before .before .before .before .before .before .before .number .kept .0,
-      number-short _ _ (c .before .before .before .number2 .ensures),
-      c .before .before .before .number2 .kept .0,
+      past-add .add .ensures .ends,
+      past-add .add .kept .0,
+      number-short _ _ (past-number .number .ensures),
+      past-number .number .kept .0,
+      number-short _ _ (past-number2 .number2 .ensures),
+      past-number2 .number2 .kept .0,
     )
 
 same-length : tie.Need-same-length
@@ -42,10 +47,13 @@ same-length c = search needs
 
 returns : tie.Need-returns
 returns c =
+    let past-number2 = c .before .before .before .before .before .before in
+    let past-number = past-number2 .before .before .before .before in
+    let past-add = past-number .before .before .before .before in
     adds-stands
     (adds-as
-    (adds-both (c .before .before .before .before .before .before .before .before .before .before .before .before .before .before .add .ensures)
-    (adds-both (c .before .before .before .before .before .before .before .before .before .before .number .ensures) (adds-both (c .before .before .before .before .before .before .number2 .ensures) (c .before .before .meaning .ensures))))
+    (adds-both (past-add .add .ensures)
+    (adds-both (past-number .number .ensures) (adds-both (past-number2 .number2 .ensures) (c .before .before .meaning .ensures))))
     (verdict-refused-line _ _))
 
 pub refused-spec : {M : Type 1} → statement M

@@ -27,8 +27,10 @@ same-length c = search needs
 returns : tie.Need-returns
 unfolding imageBytes
 returns c =
-    let call = c .before .before .before .before .before .before .before in
-    answers-text _ _ (call .before .before .first .ensures) (call .compile .ensures) (c .before .before .before .compile-line .ensures) (sym (ap imageBytes (c .before .answer .given .1)))
+    let past-compile-line = c .before .before .before in
+    let call = past-compile-line .before .before .before .before in
+    let past-first = call .before .before in
+    answers-text _ _ (past-first .first .ensures) (call .compile .ensures) (past-compile-line .compile-line .ensures) (sym (ap imageBytes (c .before .answer .given .1)))
 
 same-length-2 : tie.Need-same-length-2
 same-length-2 c = search needs
@@ -37,7 +39,8 @@ returns-2 : tie.Need-returns-2
 unfolding imageBytes
 returns-2 c =
     let call = c .before .before .before .before .before .before in
-    answers-text _ _ (call .before .before .first .ensures) (call .compile .ensures) (c .before .before .compile-line .ensures) (sym (ap imageBytes (c .enum-told .given .1)))
+    let past-first = call .before .before in
+    answers-text _ _ (past-first .first .ensures) (call .compile .ensures) (c .before .before .compile-line .ensures) (sym (ap imageBytes (c .enum-told .given .1)))
 
 pub compile-first-spec : {M : Type 1} → statement M
 compile-first-spec =

@@ -20,7 +20,10 @@ judge-first-requires : tie.Need-judge-first-requires
 judge-first-requires c κs = search needs
 
 returns-2 : tie.Need-returns-2
-returns-2 c = answers-said _ _ (c .before .before .before .before .before .before .before .limit-said .ensures) (c .before .before .before .before .before .said .given .1) (c .judge-first .ensures)
+returns-2 c =
+    let past-said = c .before .before .before .before .before in
+    let past-limit-said = past-said .before .before in
+    answers-said _ _ (past-limit-said .limit-said .ensures) (past-said .said .given .1) (c .judge-first .ensures)
 
 pub judge-word-spec : {M : Type 1} → statement M
 judge-word-spec =

@@ -42,19 +42,23 @@ refuse-requires-2 c κs = search needs
 
 returns-2 : tie.Need-returns-2
 returns-2 c =
-    let first = c .before .before .before .before .before .before .token-at .ensures in
-    let is = c .before .before .before .before .token .given .1 in
+    let past-token = c .before .before .before .before in
+    let past-token-at = past-token .before .before in
+    let first = past-token-at .token-at .ensures in
+    let is = past-token .token .given .1 in
     let told = c .before .enum-told .given .1 in (
-      λ none n. test-on (told-word first is told) _ (λ t. refl) (λ t. refl) (λ t. refl) (c .read-test-at .ensures .0 (c .before .before .before .before .token .given .0 .0)),
+      λ none n. test-on (told-word first is told) _ (λ t. refl) (λ t. refl) (λ t. refl) (c .read-test-at .ensures .0 (past-token .token .given .0 .0)),
       record { right = next-word first _ is told byRead (c .read-test-at .ensures .1) },
     )
 
 returns-3 : tie.Need-returns-3
 returns-3 c =
-    let first = c .before .before .before .before .before .before .token-at .ensures in
-    let is = c .before .before .before .before .token .given .1 in
+    let past-token = c .before .before .before .before in
+    let past-token-at = past-token .before .before in
+    let first = past-token-at .token-at .ensures in
+    let is = past-token .token .given .1 in
     let told = c .before .enum-told2 .given .1 in (
-      λ none n. test-on (told-word first is told) _ (λ t. refl) (λ t. refl) (λ t. refl) (c .counter-test-at .ensures .0 (c .before .before .before .before .token .given .0 .0)),
+      λ none n. test-on (told-word first is told) _ (λ t. refl) (λ t. refl) (λ t. refl) (c .counter-test-at .ensures .0 (past-token .token .given .0 .0)),
       record { right = next-word first _ is told byC (c .counter-test-at .ensures .1) },
     )
 

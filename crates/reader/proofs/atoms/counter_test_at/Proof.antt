@@ -42,19 +42,23 @@ refuse-requires-2 c κs = search needs
 
 returns-2 : tie.Need-returns-2
 returns-2 c =
-    let first = c .before .before .before .before .before .before .token-at .ensures in
-    let is = c .before .before .before .before .token .given .1 in
+    let past-token = c .before .before .before .before in
+    let past-token-at = past-token .before .before in
+    let first = past-token-at .token-at .ensures in
+    let is = past-token .token .given .1 in
     let told = c .before .enum-told .given .1 in (
-      λ p. test-on (told-sign first is told) _ (λ t. refl) (λ t. refl) (λ t. refl) (c .zero-at .ensures .0 p (c .before .before .before .before .token .given .0 .0)),
+      λ p. test-on (told-sign first is told) _ (λ t. refl) (λ t. refl) (λ t. refl) (c .zero-at .ensures .0 p (past-token .token .given .0 .0)),
       next-sign first _ is told same (c .zero-at .ensures .1),
     )
 
 returns-3 : tie.Need-returns-3
 returns-3 c =
-    let first = c .before .before .before .before .before .before .token-at .ensures in
-    let is = c .before .before .before .before .token .given .1 in
+    let past-token = c .before .before .before .before in
+    let past-token-at = past-token .before .before in
+    let first = past-token-at .token-at .ensures in
+    let is = past-token .token .given .1 in
     let told = c .before .enum-told2 .given .1 in (
-      λ p. test-on (told-sign first is told) _ (λ t. refl) (λ t. refl) (λ t. refl) (c .zero-at2 .ensures .0 p (c .before .before .before .before .token .given .0 .0)),
+      λ p. test-on (told-sign first is told) _ (λ t. refl) (λ t. refl) (λ t. refl) (c .zero-at2 .ensures .0 p (past-token .token .given .0 .0)),
       next-sign first _ is told differs (c .zero-at2 .ensures .1),
     )
 

@@ -32,19 +32,25 @@ has-requires c κs = search needs
 
 returns-3 : tie.Need-returns-3
 returns-3 c =
-    let letters = alphabetOf (c .before .before .before .before .before .before .before .before .args .letters) in
-    let equal = c .before .before .before .before .before .before .atom .given .0 .0 in
+    let past-symbol = c .before .before .before in
+    let past-atom = past-symbol .before .before .before in
+    let start = past-atom .before .before in
+    let letters = alphabetOf (start .args .letters) in
+    let equal = past-atom .atom .given .0 .0 in
     letter-strays letters equal _ _ true (sym (c .before .has .ensures) ∙ c .if1 .taken)
-    ∙ sym (ap (λ (x : Symbol). strayOf letters (Atom.Read equal x)) (c .before .before .before .symbol .given .1))
-    ∙ sym (ap (strayOf letters) (c .before .before .before .before .before .before .atom .given .1))
+    ∙ sym (ap (λ (x : Symbol). strayOf letters (Atom.Read equal x)) (past-symbol .symbol .given .1))
+    ∙ sym (ap (strayOf letters) (past-atom .atom .given .1))
 
 returns-4 : tie.Need-returns-4
 returns-4 c =
-    let letters = alphabetOf (c .before .before .before .before .before .before .before .before .args .letters) in
-    let equal = c .before .before .before .before .before .before .atom .given .0 .0 in
+    let past-symbol = c .before .before .before in
+    let past-atom = past-symbol .before .before .before in
+    let start = past-atom .before .before in
+    let letters = alphabetOf (start .args .letters) in
+    let equal = past-atom .atom .given .0 .0 in
     letter-strays letters equal _ _ false (sym (c .before .has .ensures) ∙ c .if1 .left)
-    ∙ sym (ap (λ (x : Symbol). strayOf letters (Atom.Read equal x)) (c .before .before .before .symbol .given .1))
-    ∙ sym (ap (strayOf letters) (c .before .before .before .before .before .before .atom .given .1))
+    ∙ sym (ap (λ (x : Symbol). strayOf letters (Atom.Read equal x)) (past-symbol .symbol .given .1))
+    ∙ sym (ap (strayOf letters) (past-atom .atom .given .1))
 
 pub stray-of-spec : {M : Type 1} → statement M
 stray-of-spec =

@@ -40,19 +40,25 @@ refuse-requires c κs = search needs
 
 returns-2 : tie.Need-returns-2
 returns-2 c =
-    let first = c .before .before .before .before .before .token-at .ensures in
-    let is = c .before .before .before .token .given .1 in
+    let past-token = c .before .before .before in
+    let past-token-at = past-token .before .before in
+    let start = past-token-at .before .before in
+    let first = past-token-at .token-at .ensures in
+    let is = past-token .token .given .1 in
     let told = c .enum-told .given .1 in (
-      λ p q. sought-found (c .before .before .before .before .before .before .before .args .equal) p q Tree.lend (told-word first is told) (λ ts. Grammar.lend),
+      λ p q. sought-found (start .args .equal) p q Tree.lend (told-word first is told) (λ ts. Grammar.lend),
       next-word first _ is told lend refl,
     )
 
 returns-3 : tie.Need-returns-3
 returns-3 c =
-    let first = c .before .before .before .before .before .token-at .ensures in
-    let is = c .before .before .before .token .given .1 in
+    let past-token = c .before .before .before in
+    let past-token-at = past-token .before .before in
+    let start = past-token-at .before .before in
+    let first = past-token-at .token-at .ensures in
+    let is = past-token .token .given .1 in
     let told = c .enum-told2 .given .1 in (
-      λ p q. sought-found (c .before .before .before .before .before .before .before .args .equal) p q Tree.rend (told-word first is told) (λ ts. Grammar.rend),
+      λ p q. sought-found (start .args .equal) p q Tree.rend (told-word first is told) (λ ts. Grammar.rend),
       next-word first _ is told rend refl,
     )
 

@@ -47,8 +47,10 @@ out-of-range-requires c κs = number-digits (c .before .before .before .before .
 
 returns-2 : tie.Need-returns-2
 returns-2 c =
-    let first = c .before .before .before .before .before .before .token-at .ensures in
-    let is = c .before .before .before .before .token .given .1 in
+    let past-token = c .before .before .before .before in
+    let past-token-at = past-token .before .before in
+    let first = past-token-at .token-at .ensures in
+    let is = past-token .token .given .1 in
     let out = sym (c .before .out-of-range .ensures) ∙ c .if1 .taken in (
       λ p q. test-breaks (front-number first is) _ (λ t. refl) (λ t. out) (λ t. refl),
       next-stands first _ _ is aNumber (number-refused _ _ _ out),
@@ -56,9 +58,12 @@ returns-2 c =
 
 returns-3 : tie.Need-returns-3
 returns-3 c =
-    let equal = c .before .before .before .before .before .before .before .before .args .equal in
-    let first = c .before .before .before .before .before .before .token-at .ensures in
-    let is = c .before .before .before .before .token .given .1 in
+    let past-token = c .before .before .before .before in
+    let past-token-at = past-token .before .before in
+    let start = past-token-at .before .before in
+    let equal = start .args .equal in
+    let first = past-token-at .token-at .ensures in
+    let is = past-token .token .given .1 in
     let fits = sym (c .before .out-of-range .ensures) ∙ c .if1 .left in (
       λ p q. zero-found equal p q (front-number first is) fits,
       next-stands first _ _ is aNumber (zero-read _ _ _ fits),

@@ -105,49 +105,74 @@ condition-at-refuse-requires t c κs = search needs
 
 condition-at-returns-2 : (t : ℕ) → condition-at-lts.Need-returns-2 (condition-at-claims t) (condition-at-at t) condition-at.Post condition-at-Inv-loop condition-at-μ-loop
 condition-at-returns-2 t c =
+    let past-read = c .before .before .before .before in
+    let past-operand-at = past-read .before .before in
+    let past-loop = past-operand-at .before in
     onward
-    (c .before .before .before .before .before .before .before .loop .inv .0)
-    (then _ (c .before .before .before .before .before .before .operand-at .ensures) (c .before .before .before .before .read .given .1) (refuses (c .before .before .token-at .ensures) (c .before .match2 .keys2) (c .refuse .ensures)))
+    (past-loop .loop .inv .0)
+    (then _ (past-operand-at .operand-at .ensures) (past-read .read .given .1) (refuses (c .before .before .token-at .ensures) (c .before .match2 .keys2) (c .refuse .ensures)))
 
 condition-at-enum-told-2 : (t : ℕ) → condition-at-lts.Need-enum-told-2 (condition-at-claims t) (condition-at-at t) condition-at.Post condition-at-Inv-loop condition-at-μ-loop
 condition-at-enum-told-2 t c = search needs
 
 condition-at-returns-3 : (t : ℕ) → condition-at-lts.Need-returns-3 (condition-at-claims t) (condition-at-at t) condition-at.Post condition-at-Inv-loop condition-at-μ-loop
 condition-at-returns-3 t c =
-    let read = c .before .before .before .before .before .before .before .before .before .operand-at .ensures in
-    let went = c .before .before .before .before .before .before .before .read .given .1 in
-    let f = told-sign (c .before .before .before .before .before .token-at .ensures) (c .before .before .before .token .given .1) (c .enum-told2 .given .1) in
-    onward (c .before .before .before .before .before .before .before .before .before .before .loop .inv .0) (then _ read went (step f refl refl refl (done (ready-on f (went-ready read went)))))
+    let past-token = c .before .before .before in
+    let past-token-at = past-token .before .before in
+    let past-read = past-token-at .before .before in
+    let past-operand-at = past-read .before .before in
+    let past-loop = past-operand-at .before in
+    let read = past-operand-at .operand-at .ensures in
+    let went = past-read .read .given .1 in
+    let f = told-sign (past-token-at .token-at .ensures) (past-token .token .given .1) (c .enum-told2 .given .1) in
+    onward (past-loop .loop .inv .0) (then _ read went (step f refl refl refl (done (ready-on f (went-ready read went)))))
 
 condition-at-plus-requires : (t : ℕ) → condition-at-lts.Need-plus-requires (condition-at-claims t) (condition-at-at t) condition-at.Post condition-at-Inv-loop condition-at-μ-loop
-condition-at-plus-requires t c κs = omega (arith, went-ready (c .before .before .before .before .before .before .before .before .operand-at .ensures) (c .before .before .before .before .before .before .read .given .1))
+condition-at-plus-requires t c κs =
+    let past-read = c .before .before .before .before .before .before in
+    let past-operand-at = past-read .before .before in
+    omega (arith, went-ready (past-operand-at .operand-at .ensures) (past-read .read .given .1))
 
 condition-at-loop-less : (t : ℕ) → condition-at-lts.Need-loop-less (condition-at-claims t) (condition-at-at t) condition-at.Post condition-at-Inv-loop condition-at-μ-loop
 condition-at-loop-less t c =
-    let f = front-sign (c .before .before .before .before .before .token-at .ensures) (c .before .before .before .token .given .1) in
-    let forth = went-forth (c .before .before .before .before .before .before .before .before .before .operand-at .ensures) (c .before .before .before .before .before .before .before .read .given .1) in
+    let past-token = c .before .before .before in
+    let past-token-at = past-token .before .before in
+    let past-read = past-token-at .before .before in
+    let past-operand-at = past-read .before .before in
+    let f = front-sign (past-token-at .token-at .ensures) (past-token .token .given .1) in
+    let forth = went-forth (past-operand-at .operand-at .ensures) (past-read .read .given .1) in
     omega (arith, f .back, f .some, f .within)
 
 condition-at-loop-again : (t : ℕ) → condition-at-lts.Need-loop-again (condition-at-claims t) (condition-at-at t) condition-at.Post condition-at-Inv-loop condition-at-μ-loop
 condition-at-loop-again t c =
-    let read = c .before .before .before .before .before .before .before .before .before .operand-at .ensures in
-    let went-on = c .before .before .before .before .before .before .before .read .given .1 in
-    let first = c .before .before .before .before .before .token-at .ensures in
-    let is = c .before .before .before .token .given .1 in
-    (comes-then (c .before .before .before .before .before .before .before .before .before .before .loop .inv .0) (comes-then (went _ read went-on) (joins first is (c .before .match3 .keys2) (c .plus .ensures))), ready-plus (front-sign first is) (went-ready read went-on) (c .plus .ensures) (omega arith) (omega arith))
+    let past-token = c .before .before .before in
+    let past-token-at = past-token .before .before in
+    let past-read = past-token-at .before .before in
+    let past-operand-at = past-read .before .before in
+    let past-loop = past-operand-at .before in
+    let read = past-operand-at .operand-at .ensures in
+    let went-on = past-read .read .given .1 in
+    let first = past-token-at .token-at .ensures in
+    let is = past-token .token .given .1 in
+    (comes-then (past-loop .loop .inv .0) (comes-then (went _ read went-on) (joins first is (c .before .match3 .keys2) (c .plus .ensures))), ready-plus (front-sign first is) (went-ready read went-on) (c .plus .ensures) (omega arith) (omega arith))
 
 condition-at-refuse-requires-2 : (t : ℕ) → condition-at-lts.Need-refuse-requires-2 (condition-at-claims t) (condition-at-at t) condition-at.Post condition-at-Inv-loop condition-at-μ-loop
 condition-at-refuse-requires-2 t c κs = search needs
 
 condition-at-returns-4 : (t : ℕ) → condition-at-lts.Need-returns-4 (condition-at-claims t) (condition-at-at t) condition-at.Post condition-at-Inv-loop condition-at-μ-loop
 condition-at-returns-4 t c =
+    let past-token = c .before .before .before in
+    let past-token-at = past-token .before .before in
+    let past-read = past-token-at .before .before in
+    let past-operand-at = past-read .before .before in
+    let past-loop = past-operand-at .before in
     onward
-    (c .before .before .before .before .before .before .before .before .before .before .loop .inv .0)
+    (past-loop .loop .inv .0)
     (then
     _
-    (c .before .before .before .before .before .before .before .before .before .operand-at .ensures)
-    (c .before .before .before .before .before .before .before .read .given .1)
-    (refuses-sign (c .before .before .before .before .before .token-at .ensures) (c .before .before .before .token .given .1) (c .before .match3 .keys3) (c .refuse2 .ensures)))
+    (past-operand-at .operand-at .ensures)
+    (past-read .read .given .1)
+    (refuses-sign (past-token-at .token-at .ensures) (past-token .token .given .1) (c .before .match3 .keys3) (c .refuse2 .ensures)))
 
 abbrev operand-at-claims : ℕ → operand-at-lts.Claims
 operand-at-claims t = (
@@ -182,15 +207,20 @@ operand-at-enum-told t c = search needs
 
 operand-at-returns-2 : (t : ℕ) → operand-at-lts.Need-returns-2 (operand-at-claims t) (operand-at-at t) operand-at.Post
 operand-at-returns-2 t c =
-    break (told-sign (c .before .before .before .before .before .before .token-at .ensures) (c .before .before .before .before .token .given .1) (c .before .enum-told .given .1)) refl (none-left (c .before .before .before .before .before .before .before .before .args .left) (c .if1 .taken))
+    let past-token = c .before .before .before .before in
+    let past-token-at = past-token .before .before in
+    let start = past-token-at .before .before in
+    break (told-sign (past-token-at .token-at .ensures) (past-token .token .given .1) (c .before .enum-told .given .1)) refl (none-left (start .args .left) (c .if1 .taken))
 
 operand-at-sub-condition-at : (t : ℕ) → operand-at-lts.Need-sub-condition-at (operand-at-claims t) (operand-at-at t) operand-at.Post
 operand-at-sub-condition-at t c = omega arith
 
 operand-at-condition-at-requires : (t : ℕ) → operand-at-lts.Need-condition-at-requires (operand-at-claims t) (operand-at-at t) operand-at.Post
 operand-at-condition-at-requires t c κs =
-    let start = c .before .before .before .before .before .before .before .before in
-    let f = front-sign (c .before .before .before .before .before .before .token-at .ensures) (c .before .before .before .before .token .given .1) in
+    let past-token = c .before .before .before .before in
+    let past-token-at = past-token .before .before in
+    let start = past-token-at .before .before in
+    let f = front-sign (past-token-at .token-at .ensures) (past-token .token .given .1) in
     (omega (arith, start .pre .0, f .back, f .some, f .within), (ready-on f (start .pre .1 .0), (start .pre .1 .1 .0, omega (arith, start .pre .1 .1))))
 
 operand-at-enum-told-2 : (t : ℕ) → operand-at-lts.Need-enum-told-2 (operand-at-claims t) (operand-at-at t) operand-at.Post
@@ -198,15 +228,20 @@ operand-at-enum-told-2 t c = search needs
 
 operand-at-returns-3 : (t : ℕ) → operand-at-lts.Need-returns-3 (operand-at-claims t) (operand-at-at t) operand-at.Post
 operand-at-returns-3 t c =
-    break (told-sign (c .before .before .before .before .before .before .token-at .ensures) (c .before .before .before .before .token .given .1) (c .before .enum-told2 .given .1)) refl (none-left (c .before .before .before .before .before .before .before .before .args .left) (c .if2 .taken))
+    let past-token = c .before .before .before .before in
+    let past-token-at = past-token .before .before in
+    let start = past-token-at .before .before in
+    break (told-sign (past-token-at .token-at .ensures) (past-token .token .given .1) (c .before .enum-told2 .given .1)) refl (none-left (start .args .left) (c .if2 .taken))
 
 operand-at-sub-operand-at : (t : ℕ) → operand-at-lts.Need-sub-operand-at (operand-at-claims t) (operand-at-at t) operand-at.Post
 operand-at-sub-operand-at t c = omega arith
 
 operand-at-operand-at-requires : (t : ℕ) → operand-at-lts.Need-operand-at-requires (operand-at-claims t) (operand-at-at t) operand-at.Post
 operand-at-operand-at-requires t c κs =
-    let start = c .before .before .before .before .before .before .before .before in
-    let f = front-sign (c .before .before .before .before .before .before .token-at .ensures) (c .before .before .before .before .token .given .1) in
+    let past-token = c .before .before .before .before in
+    let past-token-at = past-token .before .before in
+    let start = past-token-at .before .before in
+    let f = front-sign (past-token-at .token-at .ensures) (past-token .token .given .1) in
     (omega (arith, start .pre .0, f .back, f .some, f .within), (ready-on f (start .pre .1 .0), (start .pre .1 .1 .0, omega (arith, start .pre .1 .1))))
 
 operand-at-refuse-requires : (t : ℕ) → operand-at-lts.Need-refuse-requires (operand-at-claims t) (operand-at-at t) operand-at.Post
@@ -214,10 +249,12 @@ operand-at-refuse-requires t c κs = search needs
 
 operand-at-returns-4 : (t : ℕ) → operand-at-lts.Need-returns-4 (operand-at-claims t) (operand-at-at t) operand-at.Post
 operand-at-returns-4 t c =
-    let start = c .before .before .before .before .before .before .before .before .before in
+    let past-token = c .before .before .before .before .before in
+    let past-token-at = past-token .before .before in
+    let start = past-token-at .before .before in
     let deeper = one-deeper (start .args .left) (c .before .if1 .left) (start .pre .1 .1 .1) in
     step
-    (told-sign (c .before .before .before .before .before .before .before .token-at .ensures) (c .before .before .before .before .before .token .given .1) (c .before .before .enum-told .given .1))
+    (told-sign (past-token-at .token-at .ensures) (past-token .token .given .1) (c .before .before .enum-told .given .1))
     refl
     (some-left (start .args .left) (c .before .if1 .left))
     refl
@@ -225,10 +262,12 @@ operand-at-returns-4 t c =
 
 operand-at-returns-5 : (t : ℕ) → operand-at-lts.Need-returns-5 (operand-at-claims t) (operand-at-at t) operand-at.Post
 operand-at-returns-5 t c =
-    let start = c .before .before .before .before .before .before .before .before .before in
+    let past-token = c .before .before .before .before .before in
+    let past-token-at = past-token .before .before in
+    let start = past-token-at .before .before in
     let deeper = one-deeper (start .args .left) (c .before .if2 .left) (start .pre .1 .1 .1) in
     step
-    (told-sign (c .before .before .before .before .before .before .before .token-at .ensures) (c .before .before .before .before .before .token .given .1) (c .before .before .enum-told2 .given .1))
+    (told-sign (past-token-at .token-at .ensures) (past-token .token .given .1) (c .before .before .enum-told2 .given .1))
     refl
     (some-left (start .args .left) (c .before .if2 .left))
     refl

@@ -28,8 +28,9 @@ rows-of-requires c κs = search needs
 
 plus-requires : tie.Need-plus-requires
 plus-requires c κs =
-    let start = c .before .before .before .before .before .before .before .before .before in
-    let most = rows-most (start .args .letters .count) (c .before .before .before .before .before .atom .given .0 .0) in
+    let past-atom = c .before .before .before .before .before in
+    let start = past-atom .before .before .before .before in
+    let most = rows-most (start .args .letters .count) (past-atom .atom .given .0 .0) in
     omega (arith, c .rows-of .ensures, start .pre .0, start .pre .1 .1)
 
 enum-known-place : tie.Need-enum-known-place
@@ -40,26 +41,33 @@ enum-known-refusal c = search needs
 
 returns : tie.Need-returns
 returns c =
-    let start = c .before .before .before .before .before .before .before .before .before .before in
+    let past-stray-of = c .before .before .before .before in
+    let past-atom = past-stray-of .before .before in
+    let past-atom-from = past-atom .before .before in
+    let start = past-atom-from .before .before in
     let sized = alphabet-length (start .pre .1 .1) in
     let few : length (alphabetOf (start .args .letters)) ≤ 16 = omega (arith, start .pre .1 .1) in
     λ n.
     atom-answers
-    (c .before .before .before .before .before .before .before .before .atom-from .ensures .0 (start .pre .1 .0) n)
-    (c .before .before .before .before .before .before .atom .given .1)
-    (sym (c .before .before .before .before .stray-of .ensures) ∙ c .before .before .enum-told .given .1)
+    (past-atom-from .atom-from .ensures .0 (start .pre .1 .0) n)
+    (past-atom .atom .given .1)
+    (sym (past-stray-of .stray-of .ensures) ∙ c .before .before .enum-told .given .1)
     (start .pre .0)
     few
-    (c .before .rows-of .ensures ∙ ap (λ (k : ℕ). rowsOf k (c .before .before .before .before .before .before .atom .given .0 .0)) (sym sized))
+    (c .before .rows-of .ensures ∙ ap (λ (k : ℕ). rowsOf k (past-atom .atom .given .0 .0)) (sym sized))
     (c .plus .ensures)
 
 returns-2 : tie.Need-returns-2
 returns-2 c =
+    let past-stray-of = c .before .before .before in
+    let past-atom = past-stray-of .before .before in
+    let past-atom-from = past-atom .before .before in
+    let start = past-atom-from .before .before in
     λ n.
     atom-strays
-    (c .before .before .before .before .before .before .before .atom-from .ensures .0 (c .before .before .before .before .before .before .before .before .before .pre .1 .0) n)
-    (c .before .before .before .before .before .atom .given .1)
-    (sym (c .before .before .before .stray-of .ensures) ∙ c .before .place .given .1)
+    (past-atom-from .atom-from .ensures .0 (start .pre .1 .0) n)
+    (past-atom .atom .given .1)
+    (sym (past-stray-of .stray-of .ensures) ∙ c .before .place .given .1)
 
 returns-3 : tie.Need-returns-3
 returns-3 c = λ n. atom-refused (c .before .before .before .atom-from .ensures .0 (c .before .before .before .before .before .pre .1 .0) n) (c .before .refusal .given .1)

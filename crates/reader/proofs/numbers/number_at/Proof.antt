@@ -41,22 +41,27 @@ out-of-range-requires c κs = number-digits (c .before .before .before .before .
 
 returns-2 : tie.Need-returns-2
 returns-2 c =
+    let past-token = c .before .before .before .before in
+    let past-token-at = past-token .before .before in
     λ a.
     break
-    (front-number (c .before .before .before .before .before .before .token-at .ensures) (c .before .before .before .before .token .given .1))
+    (front-number (past-token-at .token-at .ensures) (past-token .token .given .1))
     refl
     (sym (c .before .out-of-range .ensures) ∙ c .if1 .taken)
 
 returns-3 : tie.Need-returns-3
 returns-3 c =
-    let f = front-number (c .before .before .before .before .before .before .token-at .ensures) (c .before .before .before .before .token .given .1) in
+    let past-token = c .before .before .before .before in
+    let past-token-at = past-token .before .before in
+    let start = past-token-at .before .before in
+    let f = front-number (past-token-at .token-at .ensures) (past-token .token .given .1) in
     λ a.
     step
     f
     refl
     (sym (c .before .out-of-range .ensures) ∙ c .if1 .left)
     refl
-    (done (ready-on f (c .before .before .before .before .before .before .before .before .pre)))
+    (done (ready-on f (start .pre)))
 
 pub number-at-spec : {M : Type 1} → statement M
 number-at-spec =

@@ -27,7 +27,9 @@ shared-slice-read-digit-2 : tie.Need-shared-slice-read-digit-2
 shared-slice-read-digit-2 c = search needs
 
 digit-requires-2 : tie.Need-digit-requires-2
-digit-requires-2 c κs = digit-at (c .before .before .before .before .before .before .args .digits .now) 0 (c .before .before .before .before .before .before .pre) (omega arith)
+digit-requires-2 c κs =
+    let start = c .before .before .before .before .before .before in
+    digit-at (start .args .digits .now) 0 (start .pre) (omega arith)
 
 mul-result : tie.Need-mul-result
 mul-result c = search needs
@@ -36,19 +38,23 @@ shared-slice-read-digit-3 : tie.Need-shared-slice-read-digit-3
 shared-slice-read-digit-3 c = search needs
 
 digit-requires-3 : tie.Need-digit-requires-3
-digit-requires-3 c κs = digit-at (c .before .before .before .before .before .before .before .before .args .digits .now) 1 (c .before .before .before .before .before .before .before .before .pre) (omega arith)
+digit-requires-3 c κs =
+    let start = c .before .before .before .before .before .before .before .before in
+    digit-at (start .args .digits .now) 1 (start .pre) (omega arith)
 
 add-result : tie.Need-add-result
 add-result c = search needs
 
 returns-4 : tie.Need-returns-4
 returns-4 c =
-    let start = c .before .before .before .before .before .before .before .before .before in
+    let past-if3 = c .before .before .before .before in
+    let past-if2 = past-if3 .before .before in
+    let start = past-if2 .before .before .before in
     two-digits
     (start .args .greatest)
     (start .args .digits .now)
-    (c .before .before .before .before .before .before .if2 .left)
-    (c .before .before .before .before .if3 .left)
+    (past-if2 .if2 .left)
+    (past-if3 .if3 .left)
     (c .before .before .digit2 .result)
     (c .digit3 .result)
     (c .before .before .digit2 .ensures .0)

@@ -24,34 +24,52 @@ enum-told : tie.Need-enum-told
 enum-told c = search needs
 
 sign-at-requires : tie.Need-sign-at-requires
-sign-at-requires c κs = ready-on (told-sign (c .before .before .before .before .before .token-at .ensures) (c .before .before .before .token .given .1) (c .enum-told .given .1)) (c .before .before .before .before .before .before .before .pre)
+sign-at-requires c κs =
+    let past-token = c .before .before .before in
+    let past-token-at = past-token .before .before in
+    let start = past-token-at .before .before in
+    ready-on (told-sign (past-token-at .token-at .ensures) (past-token .token .given .1) (c .enum-told .given .1)) (start .pre)
 
 enum-told-2 : tie.Need-enum-told-2
 enum-told-2 c = search needs
 
 sign-at-requires-2 : tie.Need-sign-at-requires-2
-sign-at-requires-2 c κs = ready-on (told-sign (c .before .before .before .before .before .token-at .ensures) (c .before .before .before .token .given .1) (c .enum-told2 .given .1)) (c .before .before .before .before .before .before .before .pre)
+sign-at-requires-2 c κs =
+    let past-token = c .before .before .before in
+    let past-token-at = past-token .before .before in
+    let start = past-token-at .before .before in
+    ready-on (told-sign (past-token-at .token-at .ensures) (past-token .token .given .1) (c .enum-told2 .given .1)) (start .pre)
 
 enum-told-3 : tie.Need-enum-told-3
 enum-told-3 c = search needs
 
 amount-at-requires : tie.Need-amount-at-requires
-amount-at-requires c κs = ready-on (told-sign (c .before .before .before .before .before .token-at .ensures) (c .before .before .before .token .given .1) (c .enum-told3 .given .1)) (c .before .before .before .before .before .before .before .pre)
+amount-at-requires c κs =
+    let past-token = c .before .before .before in
+    let past-token-at = past-token .before .before in
+    let start = past-token-at .before .before in
+    ready-on (told-sign (past-token-at .token-at .ensures) (past-token .token .given .1) (c .enum-told3 .given .1)) (start .pre)
 
 enum-told-4 : tie.Need-enum-told-4
 enum-told-4 c = search needs
 
 amount-at-requires-2 : tie.Need-amount-at-requires-2
-amount-at-requires-2 c κs = ready-on (told-sign (c .before .before .before .before .before .token-at .ensures) (c .before .before .before .token .given .1) (c .enum-told4 .given .1)) (c .before .before .before .before .before .before .before .pre)
+amount-at-requires-2 c κs =
+    let past-token = c .before .before .before in
+    let past-token-at = past-token .before .before in
+    let start = past-token-at .before .before in
+    ready-on (told-sign (past-token-at .token-at .ensures) (past-token .token .given .1) (c .enum-told4 .given .1)) (start .pre)
 
 refuse-requires-2 : tie.Need-refuse-requires-2
 refuse-requires-2 c κs = search needs
 
 returns-2 : tie.Need-returns-2
 returns-2 c =
+    let past-token = c .before .before .before .before in
+    let past-token-at = past-token .before .before in
     λ a.
     step
-    (told-sign (c .before .before .before .before .before .before .token-at .ensures) (c .before .before .before .before .token .given .1) (c .before .enum-told .given .1))
+    (told-sign (past-token-at .token-at .ensures) (past-token .token .given .1) (c .before .enum-told .given .1))
     refl
     refl
     refl
@@ -59,9 +77,11 @@ returns-2 c =
 
 returns-3 : tie.Need-returns-3
 returns-3 c =
+    let past-token = c .before .before .before .before in
+    let past-token-at = past-token .before .before in
     λ a.
     step
-    (told-sign (c .before .before .before .before .before .before .token-at .ensures) (c .before .before .before .before .token .given .1) (c .before .enum-told2 .given .1))
+    (told-sign (past-token-at .token-at .ensures) (past-token .token .given .1) (c .before .enum-told2 .given .1))
     refl
     refl
     refl
@@ -69,9 +89,11 @@ returns-3 c =
 
 returns-4 : tie.Need-returns-4
 returns-4 c =
+    let past-token = c .before .before .before .before in
+    let past-token-at = past-token .before .before in
     λ a.
     step
-    (told-sign (c .before .before .before .before .before .before .token-at .ensures) (c .before .before .before .before .token .given .1) (c .before .enum-told3 .given .1))
+    (told-sign (past-token-at .token-at .ensures) (past-token .token .given .1) (c .before .enum-told3 .given .1))
     refl
     refl
     refl
@@ -79,9 +101,11 @@ returns-4 c =
 
 returns-5 : tie.Need-returns-5
 returns-5 c =
+    let past-token = c .before .before .before .before in
+    let past-token-at = past-token .before .before in
     λ a.
     step
-    (told-sign (c .before .before .before .before .before .before .token-at .ensures) (c .before .before .before .before .token .given .1) (c .before .enum-told4 .given .1))
+    (told-sign (past-token-at .token-at .ensures) (past-token .token .given .1) (c .before .enum-told4 .given .1))
     refl
     refl
     refl

@@ -33,13 +33,19 @@ returns-2 : tie.Need-returns-2
 returns-2 c = λ a. refuses-sign (c .before .before .before .before .before .token-at .ensures) (c .before .before .before .token .given .1) (c .before .match2 .keys2) (c .refuse .ensures)
 
 cells-at-requires-2 : tie.Need-cells-at-requires-2
-cells-at-requires-2 c κs = ready-on (told-sign (c .before .before .before .before .before .token-at .ensures) (c .before .before .before .token .given .1) (c .enum-told .given .1)) (c .before .before .before .before .before .before .before .pre)
+cells-at-requires-2 c κs =
+    let past-token = c .before .before .before in
+    let past-token-at = past-token .before .before in
+    let start = past-token-at .before .before in
+    ready-on (told-sign (past-token-at .token-at .ensures) (past-token .token .given .1) (c .enum-told .given .1)) (start .pre)
 
 returns-3 : tie.Need-returns-3
 returns-3 c =
+    let past-token = c .before .before .before .before in
+    let past-token-at = past-token .before .before in
     λ a.
     step
-    (told-sign (c .before .before .before .before .before .before .token-at .ensures) (c .before .before .before .before .token .given .1) (c .before .enum-told .given .1))
+    (told-sign (past-token-at .token-at .ensures) (past-token .token .given .1) (c .before .enum-told .given .1))
     refl
     refl
     refl

@@ -32,56 +32,78 @@ refuse-requires c κs = search needs
 
 returns-2 : tie.Need-returns-2
 returns-2 c =
+    let past-read = c .before .before .before .before in
+    let past-sign-at = past-read .before .before in
     λ a.
-    then _ (c .before .before .before .before .before .before .sign-at .ensures Fixed.opens a refl) (c .before .before .before .before .read .given .1) (refuses (c .before .before .token-at .ensures) (c .before .match2 .keys2) (c .refuse .ensures))
+    then _ (past-sign-at .sign-at .ensures Fixed.opens a refl) (past-read .read .given .1) (refuses (c .before .before .token-at .ensures) (c .before .match2 .keys2) (c .refuse .ensures))
 
 enum-told-2 : tie.Need-enum-told-2
 enum-told-2 c = search needs
 
 close-at-requires : tie.Need-close-at-requires
 close-at-requires c κs =
+    let past-token = c .before .before .before in
+    let past-token-at = past-token .before .before in
+    let past-read = past-token-at .before .before in
+    let past-sign-at = past-read .before .before in
     ready-on
-    (told-word (c .before .before .before .before .before .token-at .ensures) (c .before .before .before .token .given .1) (c .enum-told2 .given .1))
-    (went-ready (c .before .before .before .before .before .before .before .before .before .sign-at .ensures Fixed.opens [] refl) (c .before .before .before .before .before .before .before .read .given .1))
+    (told-word (past-token-at .token-at .ensures) (past-token .token .given .1) (c .enum-told2 .given .1))
+    (went-ready (past-sign-at .sign-at .ensures Fixed.opens [] refl) (past-read .read .given .1))
 
 enum-told-3 : tie.Need-enum-told-3
 enum-told-3 c = search needs
 
 close-at-requires-2 : tie.Need-close-at-requires-2
 close-at-requires-2 c κs =
+    let past-token = c .before .before .before in
+    let past-token-at = past-token .before .before in
+    let past-read = past-token-at .before .before in
+    let past-sign-at = past-read .before .before in
     ready-on
-    (told-word (c .before .before .before .before .before .token-at .ensures) (c .before .before .before .token .given .1) (c .enum-told3 .given .1))
-    (went-ready (c .before .before .before .before .before .before .before .before .before .sign-at .ensures Fixed.opens [] refl) (c .before .before .before .before .before .before .before .read .given .1))
+    (told-word (past-token-at .token-at .ensures) (past-token .token .given .1) (c .enum-told3 .given .1))
+    (went-ready (past-sign-at .sign-at .ensures Fixed.opens [] refl) (past-read .read .given .1))
 
 refuse-requires-2 : tie.Need-refuse-requires-2
 refuse-requires-2 c κs = search needs
 
 returns-3 : tie.Need-returns-3
 returns-3 c =
+    let past-token = c .before .before .before .before in
+    let past-token-at = past-token .before .before in
+    let past-read = past-token-at .before .before in
+    let past-sign-at = past-read .before .before in
     λ a.
     then
     _
-    (c .before .before .before .before .before .before .before .before .before .before .sign-at .ensures Fixed.opens a refl)
-    (c .before .before .before .before .before .before .before .before .read .given .1)
-    (step (told-word (c .before .before .before .before .before .before .token-at .ensures) (c .before .before .before .before .token .given .1) (c .before .enum-told2 .given .1)) refl refl refl (c .close-at .ensures a))
+    (past-sign-at .sign-at .ensures Fixed.opens a refl)
+    (past-read .read .given .1)
+    (step (told-word (past-token-at .token-at .ensures) (past-token .token .given .1) (c .before .enum-told2 .given .1)) refl refl refl (c .close-at .ensures a))
 
 returns-4 : tie.Need-returns-4
 returns-4 c =
+    let past-token = c .before .before .before .before in
+    let past-token-at = past-token .before .before in
+    let past-read = past-token-at .before .before in
+    let past-sign-at = past-read .before .before in
     λ a.
     then
     _
-    (c .before .before .before .before .before .before .before .before .before .before .sign-at .ensures Fixed.opens a refl)
-    (c .before .before .before .before .before .before .before .before .read .given .1)
-    (step (told-word (c .before .before .before .before .before .before .token-at .ensures) (c .before .before .before .before .token .given .1) (c .before .enum-told3 .given .1)) refl refl refl (c .close-at2 .ensures a))
+    (past-sign-at .sign-at .ensures Fixed.opens a refl)
+    (past-read .read .given .1)
+    (step (told-word (past-token-at .token-at .ensures) (past-token .token .given .1) (c .before .enum-told3 .given .1)) refl refl refl (c .close-at2 .ensures a))
 
 returns-5 : tie.Need-returns-5
 returns-5 c =
+    let past-token = c .before .before .before in
+    let past-token-at = past-token .before .before in
+    let past-read = past-token-at .before .before in
+    let past-sign-at = past-read .before .before in
     λ a.
     then
     _
-    (c .before .before .before .before .before .before .before .before .before .sign-at .ensures Fixed.opens a refl)
-    (c .before .before .before .before .before .before .before .read .given .1)
-    (refuses-word (c .before .before .before .before .before .token-at .ensures) (c .before .before .before .token .given .1) (c .before .match3 .keys3) (c .refuse2 .ensures))
+    (past-sign-at .sign-at .ensures Fixed.opens a refl)
+    (past-read .read .given .1)
+    (refuses-word (past-token-at .token-at .ensures) (past-token .token .given .1) (c .before .match3 .keys3) (c .refuse2 .ensures))
 
 pub goto-at-spec : {M : Type 1} → statement M
 goto-at-spec =

@@ -31,7 +31,11 @@ returns-2 : tie.Need-returns-2
 returns-2 c = λ a. refuses-word (c .before .before .before .before .before .token-at .ensures) (c .before .before .before .token .given .1) (c .before .match2 .keys2) (c .refuse2 .ensures)
 
 sign-at-requires : tie.Need-sign-at-requires
-sign-at-requires c κs = ready-on (told-word (c .before .before .before .before .before .token-at .ensures) (c .before .before .before .token .given .1) (c .enum-told .given .1)) (c .before .before .before .before .before .before .before .pre)
+sign-at-requires c κs =
+    let past-token = c .before .before .before in
+    let past-token-at = past-token .before .before in
+    let start = past-token-at .before .before in
+    ready-on (told-word (past-token-at .token-at .ensures) (past-token .token .given .1) (c .enum-told .given .1)) (start .pre)
 
 enum-known-read : tie.Need-enum-known-read
 enum-known-read c = search needs
@@ -41,9 +45,12 @@ enum-told-2 c = search needs
 
 returns-3 : tie.Need-returns-3
 returns-3 c =
+    let past-enum-told = c .before .before .before in
+    let past-token = past-enum-told .before .before .before in
+    let past-token-at = past-token .before .before in
     λ a.
     step
-    (told-word (c .before .before .before .before .before .before .before .before .token-at .ensures) (c .before .before .before .before .before .before .token .given .1) (c .before .before .before .enum-told .given .1))
+    (told-word (past-token-at .token-at .ensures) (past-token .token .given .1) (past-enum-told .enum-told .given .1))
     refl
     refl
     refl
@@ -54,13 +61,17 @@ string-at-requires c κs = went-ready (c .before .before .before .sign-at .ensur
 
 returns-4 : tie.Need-returns-4
 returns-4 c =
+    let past-sign-at = c .before .before .before .before in
+    let past-enum-told = past-sign-at .before in
+    let past-token = past-enum-told .before .before .before in
+    let past-token-at = past-token .before .before in
     λ a.
     step
-    (told-word (c .before .before .before .before .before .before .before .before .before .before .token-at .ensures) (c .before .before .before .before .before .before .before .before .token .given .1) (c .before .before .before .before .before .enum-told .given .1))
+    (told-word (past-token-at .token-at .ensures) (past-token .token .given .1) (past-enum-told .enum-told .given .1))
     refl
     refl
     refl
-    (then _ (c .before .before .before .before .sign-at .ensures Fixed.opens a refl) (c .before .before .read .given .1) (over _ (c .string-at .ensures a)))
+    (then _ (past-sign-at .sign-at .ensures Fixed.opens a refl) (c .before .before .read .given .1) (over _ (c .string-at .ensures a)))
 
 pub head-at-spec : {M : Type 1} → statement M
 head-at-spec =

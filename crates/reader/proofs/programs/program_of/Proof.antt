@@ -31,12 +31,17 @@ enum-told-2 c = search needs
 
 returns-2 : tie.Need-returns-2
 returns-2 c =
+    let past-read = c .before .before .before .before in
+    let past-settings-of = past-read .before .before .before in
     refused-outcome
-    (then _ (c .before .before .before .before .before .before .before .settings-of .ensures .answers) (c .before .before .before .before .read .given .1) (stop _ (c .before .before .head-at .ensures (alphabetOf (c .before .before .before .before .before .before .before .settings-of .result .letters))) (c .enum-told2 .given .1)))
+    (then _ (past-settings-of .settings-of .ensures .answers) (past-read .read .given .1) (stop _ (c .before .before .head-at .ensures (alphabetOf (past-settings-of .settings-of .result .letters))) (c .enum-told2 .given .1)))
     (c .enum-told2 .given .1)
 
 block-at-requires : tie.Need-block-at-requires
-block-at-requires c κs = (went-ready (c .before .before .before .head-at .ensures (alphabetOf (c .before .before .before .before .before .before .before .before .settings-of .result .letters))) (c .before .head .given .1), (c .before .before .before .before .before .before .before .before .settings-of .ensures .sized, omega arith))
+block-at-requires c κs =
+    let past-head-at = c .before .before .before in
+    let past-settings-of = past-head-at .before .before .before .before .before in
+    (went-ready (past-head-at .head-at .ensures (alphabetOf (past-settings-of .settings-of .result .letters))) (c .before .head .given .1), (past-settings-of .settings-of .ensures .sized, omega arith))
 
 enum-known-body : tie.Need-enum-known-body
 enum-known-body c = search needs
@@ -46,12 +51,16 @@ enum-told-3 c = search needs
 
 returns-3 : tie.Need-returns-3
 returns-3 c =
+    let past-head = c .before .before .before .before in
+    let past-head-at = past-head .before .before in
+    let past-read = past-head-at .before .before in
+    let past-settings-of = past-read .before .before .before in
     refused-outcome
     (then
     _
-    (c .before .before .before .before .before .before .before .before .before .before .before .settings-of .ensures .answers)
-    (c .before .before .before .before .before .before .before .before .read .given .1)
-    (then _ (c .before .before .before .before .before .before .head-at .ensures (alphabetOf (c .before .before .before .before .before .before .before .before .before .before .before .settings-of .result .letters))) (c .before .before .before .before .head .given .1) (stop _ (c .before .before .block-at .ensures) (c .enum-told3 .given .1))))
+    (past-settings-of .settings-of .ensures .answers)
+    (past-read .read .given .1)
+    (then _ (past-head-at .head-at .ensures (alphabetOf (past-settings-of .settings-of .result .letters))) (past-head .head .given .1) (stop _ (c .before .before .block-at .ensures) (c .enum-told3 .given .1))))
     (c .enum-told3 .given .1)
 
 token-at-requires : tie.Need-token-at-requires
@@ -65,20 +74,32 @@ refuse-requires c κs = search needs
 
 returns-4 : tie.Need-returns-4
 returns-4 c =
+    let past-body = c .before .before .before .before in
+    let past-block-at = past-body .before .before in
+    let past-head = past-block-at .before .before in
+    let past-head-at = past-head .before .before in
+    let past-read = past-head-at .before .before in
+    let past-settings-of = past-read .before .before .before in
     more
     (comes-then
-    (went _ (c .before .before .before .before .before .before .before .before .before .before .before .before .before .before .before .settings-of .ensures .answers) (c .before .before .before .before .before .before .before .before .before .before .before .before .read .given .1))
-    (comes-then (went _ (c .before .before .before .before .before .before .before .before .before .before .head-at .ensures (alphabetOf (c .before .before .before .before .before .before .before .before .before .before .before .before .before .before .before .settings-of .result .letters))) (c .before .before .before .before .before .before .before .before .head .given .1)) (went _ (c .before .before .before .before .before .before .block-at .ensures) (c .before .before .before .before .body .given .1))))
+    (went _ (past-settings-of .settings-of .ensures .answers) (past-read .read .given .1))
+    (comes-then (went _ (past-head-at .head-at .ensures (alphabetOf (past-settings-of .settings-of .result .letters))) (past-head .head .given .1)) (went _ (past-block-at .block-at .ensures) (past-body .body .given .1))))
     (c .before .before .token-at .ensures)
     (c .before .match4 .keys2)
     (c .refuse .ensures)
 
 returns-5 : tie.Need-returns-5
 returns-5 c =
+    let past-body = c .before .before .before .before in
+    let past-block-at = past-body .before .before in
+    let past-head = past-block-at .before .before in
+    let past-head-at = past-head .before .before in
+    let past-read = past-head-at .before .before in
+    let past-settings-of = past-read .before .before .before in
     whole
     (comes-then
-    (went _ (c .before .before .before .before .before .before .before .before .before .before .before .before .before .before .before .settings-of .ensures .answers) (c .before .before .before .before .before .before .before .before .before .before .before .before .read .given .1))
-    (comes-then (went _ (c .before .before .before .before .before .before .before .before .before .before .head-at .ensures (alphabetOf (c .before .before .before .before .before .before .before .before .before .before .before .before .before .before .before .settings-of .result .letters))) (c .before .before .before .before .before .before .before .before .head .given .1)) (went _ (c .before .before .before .before .before .before .block-at .ensures) (c .before .before .before .before .body .given .1))))
+    (went _ (past-settings-of .settings-of .ensures .answers) (past-read .read .given .1))
+    (comes-then (went _ (past-head-at .head-at .ensures (alphabetOf (past-settings-of .settings-of .result .letters))) (past-head .head .given .1)) (went _ (past-block-at .block-at .ensures) (past-body .body .given .1))))
     (c .before .before .token-at .ensures)
     (c .enum-told4 .given .1)
 

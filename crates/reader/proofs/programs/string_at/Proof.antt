@@ -30,10 +30,17 @@ returns-2 : tie.Need-returns-2
 returns-2 c = λ a. refuses-word (c .before .before .before .before .before .token-at .ensures) (c .before .before .before .token .given .1) (c .before .match2 .keys2) (c .refuse2 .ensures)
 
 sign-at-requires : tie.Need-sign-at-requires
-sign-at-requires c κs = ready-on (told-word (c .before .before .before .before .before .token-at .ensures) (c .before .before .before .token .given .1) (c .enum-told .given .1)) (c .before .before .before .before .before .before .before .pre)
+sign-at-requires c κs =
+    let past-token = c .before .before .before in
+    let past-token-at = past-token .before .before in
+    let start = past-token-at .before .before in
+    ready-on (told-word (past-token-at .token-at .ensures) (past-token .token .given .1) (c .enum-told .given .1)) (start .pre)
 
 returns-3 : tie.Need-returns-3
-returns-3 c = λ a. step (told-word (c .before .before .before .before .before .before .token-at .ensures) (c .before .before .before .before .token .given .1) (c .before .enum-told .given .1)) refl refl refl (c .sign-at .ensures Fixed.closes a refl)
+returns-3 c =
+    let past-token = c .before .before .before .before in
+    let past-token-at = past-token .before .before in
+    λ a. step (told-word (past-token-at .token-at .ensures) (past-token .token .given .1) (c .before .enum-told .given .1)) refl refl refl (c .sign-at .ensures Fixed.closes a refl)
 
 pub string-at-spec : {M : Type 1} → statement M
 string-at-spec =

@@ -37,7 +37,11 @@ no-letters-requires-2 : tie.Need-no-letters-requires-2
 no-letters-requires-2 c κs = search needs
 
 returns-2 : tie.Need-returns-2
-returns-2 c = without (c .no-letters2 .ensures) (λ b. then _ (c .before .before .before .before .before .before .before .sign-at .ensures Fixed.equals [] refl) (c .before .before .before .before .before .read .given .1) (stop _ (c .before .before .before .sign-at2 .ensures Fixed.openList [] refl) (c .before .enum-told2 .given .1)))
+returns-2 c =
+    let past-sign-at2 = c .before .before .before in
+    let past-read = past-sign-at2 .before .before in
+    let past-sign-at = past-read .before .before in
+    without (c .no-letters2 .ensures) (λ b. then _ (past-sign-at .sign-at .ensures Fixed.equals [] refl) (past-read .read .given .1) (stop _ (past-sign-at2 .sign-at2 .ensures Fixed.openList [] refl) (c .before .enum-told2 .given .1)))
 
 letters-at-requires : tie.Need-letters-at-requires
 letters-at-requires c κs = went-ready (c .before .before .before .sign-at2 .ensures Fixed.openList [] refl) (c .before .opened .given .1)
@@ -50,14 +54,19 @@ enum-told-3 c = search needs
 
 returns-3 : tie.Need-returns-3
 returns-3 c =
-    let listed = c .before .before .before .letters-at .ensures in
+    let past-letters-at = c .before .before .before in
+    let past-opened = past-letters-at .before .before in
+    let past-sign-at2 = past-opened .before .before in
+    let past-read = past-sign-at2 .before .before in
+    let past-sign-at = past-read .before .before in
+    let listed = past-letters-at .letters-at .ensures in
     record {
       answers =
           then
           _
-          (c .before .before .before .before .before .before .before .before .before .before .before .sign-at .ensures Fixed.equals [] refl)
-          (c .before .before .before .before .before .before .before .before .before .read .given .1)
-          (then _ (c .before .before .before .before .before .before .before .sign-at2 .ensures Fixed.openList [] refl) (c .before .before .before .before .before .opened .given .1) (stop _ (listed .answers) (c .enum-told3 .given .1)));
+          (past-sign-at .sign-at .ensures Fixed.equals [] refl)
+          (past-read .read .given .1)
+          (then _ (past-sign-at2 .sign-at2 .ensures Fixed.openList [] refl) (past-opened .opened .given .1) (stop _ (listed .answers) (c .enum-told3 .given .1)));
       sized = listed .sized;
     }
 
@@ -66,18 +75,23 @@ sign-at-requires-3 c κs = went-ready (c .before .before .before .before .letter
 
 returns-4 : tie.Need-returns-4
 returns-4 c =
-    let listed = c .before .before .before .before .before .letters-at .ensures in
+    let past-letters-at = c .before .before .before .before .before in
+    let past-opened = past-letters-at .before .before in
+    let past-sign-at2 = past-opened .before .before in
+    let past-read = past-sign-at2 .before .before in
+    let past-sign-at = past-read .before .before in
+    let listed = past-letters-at .letters-at .ensures in
     record {
       answers =
           then
           _
-          (c .before .before .before .before .before .before .before .before .before .before .before .before .before .sign-at .ensures Fixed.equals [] refl)
-          (c .before .before .before .before .before .before .before .before .before .before .before .read .given .1)
+          (past-sign-at .sign-at .ensures Fixed.equals [] refl)
+          (past-read .read .given .1)
           (then
           _
-          (c .before .before .before .before .before .before .before .before .before .sign-at2 .ensures Fixed.openList [] refl)
-          (c .before .before .before .before .before .before .before .opened .given .1)
-          (then _ (listed .answers) (c .before .before .list .given .1) (c .sign-at3 .ensures Fixed.semicolon (alphabetOf (c .before .before .before .before .before .letters-at .result .letters)) refl)));
+          (past-sign-at2 .sign-at2 .ensures Fixed.openList [] refl)
+          (past-opened .opened .given .1)
+          (then _ (listed .answers) (c .before .before .list .given .1) (c .sign-at3 .ensures Fixed.semicolon (alphabetOf (past-letters-at .letters-at .result .letters)) refl)));
       sized = listed .sized;
     }
 

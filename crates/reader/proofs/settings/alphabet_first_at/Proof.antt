@@ -34,8 +34,10 @@ refused-requires c κs = search needs
 
 returns-2 : tie.Need-returns-2
 returns-2 c =
-    let first = c .before .before .before .before .before .before .before .alphabet-at .ensures in
-    refused-behind (c .refused .ensures) (first .sized) (then _ (first .answers) (c .before .before .before .before .read .given .1) (refuses (c .before .before .token-at .ensures) (c .before .match2 .keys2) refl))
+    let past-read = c .before .before .before .before in
+    let past-alphabet-at = past-read .before .before .before in
+    let first = past-alphabet-at .alphabet-at .ensures in
+    refused-behind (c .refused .ensures) (first .sized) (then _ (first .answers) (past-read .read .given .1) (refuses (c .before .before .token-at .ensures) (c .before .match2 .keys2) refl))
 
 enum-told-2 : tie.Need-enum-told-2
 enum-told-2 c = search needs
@@ -45,25 +47,38 @@ refused-requires-2 c κs = search needs
 
 returns-3 : tie.Need-returns-3
 returns-3 c =
-    let first = c .before .before .before .before .before .before .before .before .before .before .alphabet-at .ensures in
+    let past-token = c .before .before .before in
+    let past-token-at = past-token .before .before in
+    let past-read = past-token-at .before .before in
+    let past-alphabet-at = past-read .before .before .before in
+    let first = past-alphabet-at .alphabet-at .ensures in
     refused-behind
     (c .refused2 .ensures)
     (first .sized)
-    (then _ (first .answers) (c .before .before .before .before .before .before .before .read .given .1) (refuses-word (c .before .before .before .before .before .token-at .ensures) (c .before .before .before .token .given .1) (c .before .match3 .keys2) refl))
+    (then _ (first .answers) (past-read .read .given .1) (refuses-word (past-token-at .token-at .ensures) (past-token .token .given .1) (c .before .match3 .keys2) refl))
 
 truth-at-requires : tie.Need-truth-at-requires
-truth-at-requires c κs = ready-on (told-word (c .before .before .before .before .before .token-at .ensures) (c .before .before .before .token .given .1) (c .enum-told2 .given .1)) (went-ready (c .before .before .before .before .before .before .before .before .before .before .alphabet-at .ensures .answers) (c .before .before .before .before .before .before .before .read .given .1))
+truth-at-requires c κs =
+    let past-token = c .before .before .before in
+    let past-token-at = past-token .before .before in
+    let past-read = past-token-at .before .before in
+    let past-alphabet-at = past-read .before .before .before in
+    ready-on (told-word (past-token-at .token-at .ensures) (past-token .token .given .1) (c .enum-told2 .given .1)) (went-ready (past-alphabet-at .alphabet-at .ensures .answers) (past-read .read .given .1))
 
 returns-4 : tie.Need-returns-4
 returns-4 c =
-    let first = c .before .before .before .before .before .before .before .before .before .before .before .alphabet-at .ensures in
+    let past-token = c .before .before .before .before in
+    let past-token-at = past-token .before .before in
+    let past-read = past-token-at .before .before in
+    let past-alphabet-at = past-read .before .before .before in
+    let first = past-alphabet-at .alphabet-at .ensures in
     record {
       answers =
           then
           _
           (first .answers)
-          (c .before .before .before .before .before .before .before .before .read .given .1)
-          (step (told-word (c .before .before .before .before .before .before .token-at .ensures) (c .before .before .before .before .token .given .1) (c .before .enum-told2 .given .1)) refl refl refl (c .truth-at .ensures (alphabetOf (c .before .before .before .before .before .before .before .before .before .before .before .alphabet-at .result .letters))));
+          (past-read .read .given .1)
+          (step (told-word (past-token-at .token-at .ensures) (past-token .token .given .1) (c .before .enum-told2 .given .1)) refl refl refl (c .truth-at .ensures (alphabetOf (past-alphabet-at .alphabet-at .result .letters))));
       sized = first .sized;
     }
 

@@ -37,7 +37,11 @@ no-letters-requires-2 : tie.Need-no-letters-requires-2
 no-letters-requires-2 c κs = search needs
 
 returns-2 : tie.Need-returns-2
-returns-2 c = without (c .no-letters2 .ensures) (λ b. then _ (c .before .before .before .before .before .before .before .truth-at .ensures []) (c .before .before .before .before .before .read .given .1) (refuses (c .before .before .before .token-at .ensures) (c .before .before .match2 .keys2) (c .before .refuse .ensures)))
+returns-2 c =
+    let past-token-at = c .before .before .before in
+    let past-read = past-token-at .before .before in
+    let past-truth-at = past-read .before .before in
+    without (c .no-letters2 .ensures) (λ b. then _ (past-truth-at .truth-at .ensures []) (past-read .read .given .1) (refuses (past-token-at .token-at .ensures) (c .before .before .match2 .keys2) (c .before .refuse .ensures)))
 
 enum-told-2 : tie.Need-enum-told-2
 enum-told-2 c = search needs
@@ -50,23 +54,36 @@ no-letters-requires-3 c κs = search needs
 
 returns-3 : tie.Need-returns-3
 returns-3 c =
+    let past-token = c .before .before .before .before in
+    let past-token-at = past-token .before .before in
+    let past-read = past-token-at .before .before in
+    let past-truth-at = past-read .before .before in
     without
     (c .no-letters3 .ensures)
-    (λ b. then _ (c .before .before .before .before .before .before .before .before .before .before .truth-at .ensures []) (c .before .before .before .before .before .before .before .before .read .given .1) (refuses-word (c .before .before .before .before .before .before .token-at .ensures) (c .before .before .before .before .token .given .1) (c .before .before .match3 .keys2) (c .before .refuse2 .ensures)))
+    (λ b. then _ (past-truth-at .truth-at .ensures []) (past-read .read .given .1) (refuses-word (past-token-at .token-at .ensures) (past-token .token .given .1) (c .before .before .match3 .keys2) (c .before .refuse2 .ensures)))
 
 alphabet-at-requires : tie.Need-alphabet-at-requires
-alphabet-at-requires c κs = ready-on (told-word (c .before .before .before .before .before .token-at .ensures) (c .before .before .before .token .given .1) (c .enum-told2 .given .1)) (went-ready (c .before .before .before .before .before .before .before .before .before .truth-at .ensures []) (c .before .before .before .before .before .before .before .read .given .1))
+alphabet-at-requires c κs =
+    let past-token = c .before .before .before in
+    let past-token-at = past-token .before .before in
+    let past-read = past-token-at .before .before in
+    let past-truth-at = past-read .before .before in
+    ready-on (told-word (past-token-at .token-at .ensures) (past-token .token .given .1) (c .enum-told2 .given .1)) (went-ready (past-truth-at .truth-at .ensures []) (past-read .read .given .1))
 
 returns-4 : tie.Need-returns-4
 returns-4 c =
+    let past-token = c .before .before .before .before in
+    let past-token-at = past-token .before .before in
+    let past-read = past-token-at .before .before in
+    let past-truth-at = past-read .before .before in
     let second = c .alphabet-at .ensures in
     record {
       answers =
           then
           _
-          (c .before .before .before .before .before .before .before .before .before .before .truth-at .ensures [])
-          (c .before .before .before .before .before .before .before .before .read .given .1)
-          (step (told-word (c .before .before .before .before .before .before .token-at .ensures) (c .before .before .before .before .token .given .1) (c .before .enum-told2 .given .1)) refl refl refl (second .answers));
+          (past-truth-at .truth-at .ensures [])
+          (past-read .read .given .1)
+          (step (told-word (past-token-at .token-at .ensures) (past-token .token .given .1) (c .before .enum-told2 .given .1)) refl refl refl (second .answers));
       sized = second .sized;
     }
 

@@ -26,22 +26,29 @@ has-requires c κs = search needs
 
 returns-2 : tie.Need-returns-2
 returns-2 c =
-    let sized = c .before .before .before .before .before .before .before .pre .1 in
+    let past-token = c .before .before .before in
+    let past-token-at = past-token .before .before in
+    let start = past-token-at .before .before in
+    let sized = start .pre .1 in
     record {
       answers =
-          break (front-letter (c .before .before .before .before .before .token-at .ensures) (c .before .before .before .token .given .1)) refl (repeated (c .before .before .before .token .given .0 .1 .1 .0) sized (sym (c .before .has .ensures) ∙ c .if1 .taken));
+          break (front-letter (past-token-at .token-at .ensures) (past-token .token .given .1)) refl (repeated (past-token .token .given .0 .1 .1 .0) sized (sym (c .before .has .ensures) ∙ c .if1 .taken));
       sized = sized;
     }
 
 returns-3 : tie.Need-returns-3
 returns-3 c =
-    let sized = c .before .before .before .before .before .before .before .before .before .pre .1 in
+    let past-has = c .before .before .before in
+    let past-token = past-has .before .before in
+    let past-token-at = past-token .before .before in
+    let start = past-token-at .before .before in
+    let sized = start .pre .1 in
     record {
       answers =
           break
-          (front-letter (c .before .before .before .before .before .before .before .token-at .ensures) (c .before .before .before .before .before .token .given .1))
+          (front-letter (past-token-at .token-at .ensures) (past-token .token .given .1))
           refl
-          (seventeenth (c .before .before .before .before .before .token .given .0 .1 .1 .0) sized (sym (c .before .before .before .has .ensures) ∙ c .before .before .if1 .left) (c .if2 .taken));
+          (seventeenth (past-token .token .given .0 .1 .1 .0) sized (sym (past-has .has .ensures) ∙ c .before .before .if1 .left) (c .if2 .taken));
       sized = sized;
     }
 
@@ -50,15 +57,19 @@ with-requires c κs = search needs
 
 returns-4 : tie.Need-returns-4
 returns-4 c =
-    let start = c .before .before .before .before .before .before .before .before .before .before in
-    let byte = c .before .before .before .before .before .before .token .given .0 .1 .1 .0 in
-    let f = front-letter (c .before .before .before .before .before .before .before .before .token-at .ensures) (c .before .before .before .before .before .before .token .given .1) in
+    let past-if1 = c .before .before .before in
+    let past-has = past-if1 .before in
+    let past-token = past-has .before .before in
+    let past-token-at = past-token .before .before in
+    let start = past-token-at .before .before in
+    let byte = past-token .token .given .0 .1 .1 .0 in
+    let f = front-letter (past-token-at .token-at .ensures) (past-token .token .given .1) in
     record {
       answers =
           step
           f
           refl
-          (another byte (start .pre .1) (sym (c .before .before .before .before .has .ensures) ∙ c .before .before .before .if1 .left) (c .before .if2 .left))
+          (another byte (start .pre .1) (sym (past-has .has .ensures) ∙ past-if1 .if1 .left) (c .before .if2 .left))
           (with-letter byte (start .args .listed) (c .with .result) (start .args .counts) (c .with .ensures .1))
           (done (ready-on f (start .pre .0)));
       sized = c .with .ensures .0;

@@ -59,22 +59,30 @@ refused-requires c κs = search needs
 
 returns-2 : tie.Need-returns-2 Inv-loop μ-loop
 returns-2 c =
-    let listed = c .before .before .before .before .before .before .before .letter-at .ensures in
+    let past-read = c .before .before .before .before .before in
+    let past-letter-at = past-read .before .before in
+    let past-loop = past-letter-at .before in
+    let listed = past-letter-at .letter-at .ensures in
     refused-behind
     (c .refused .ensures)
     (listed .sized)
-    (onward (c .before .before .before .before .before .before .before .before .loop .inv .0) (then _ (listed .answers) (c .before .before .before .before .before .read .given .1) (refuses (c .before .before .token-at .ensures) (c .before .match2 .keys2) refl)))
+    (onward (past-loop .loop .inv .0) (then _ (listed .answers) (past-read .read .given .1) (refuses (c .before .before .token-at .ensures) (c .before .match2 .keys2) refl)))
 
 enum-told-2 : tie.Need-enum-told-2 Inv-loop μ-loop
 enum-told-2 c = search needs
 
 returns-3 : tie.Need-returns-3 Inv-loop μ-loop
 returns-3 c =
-    let listed = c .before .before .before .before .before .before .before .before .before .before .letter-at .ensures in
-    let on = c .before .before .before .before .before .before .before .before .read .given .1 in
-    let g = told-sign (c .before .before .before .before .before .token-at .ensures) (c .before .before .before .token .given .1) (c .enum-told2 .given .1) in
+    let past-token = c .before .before .before in
+    let past-token-at = past-token .before .before in
+    let past-read = past-token-at .before .before .before in
+    let past-letter-at = past-read .before .before in
+    let past-loop = past-letter-at .before in
+    let listed = past-letter-at .letter-at .ensures in
+    let on = past-read .read .given .1 in
+    let g = told-sign (past-token-at .token-at .ensures) (past-token .token .given .1) (c .enum-told2 .given .1) in
     record {
-      answers = onward (c .before .before .before .before .before .before .before .before .before .before .before .loop .inv .0) (then _ (listed .answers) on (step g refl refl refl (done (ready-on g (went-ready (listed .answers) on)))));
+      answers = onward (past-loop .loop .inv .0) (then _ (listed .answers) on (step g refl refl refl (done (ready-on g (went-ready (listed .answers) on)))));
       sized = listed .sized;
     }
 
@@ -83,30 +91,44 @@ enum-told-3 c = search needs
 
 loop-less : tie.Need-loop-less Inv-loop μ-loop
 loop-less c =
-    let g = front-sign (c .before .before .before .before .before .token-at .ensures) (c .before .before .before .token .given .1) in
-    let forth = went-forth (c .before .before .before .before .before .before .before .before .before .before .letter-at .ensures .answers) (c .before .before .before .before .before .before .before .before .read .given .1) in
+    let past-token = c .before .before .before in
+    let past-token-at = past-token .before .before in
+    let past-read = past-token-at .before .before .before in
+    let past-letter-at = past-read .before .before in
+    let g = front-sign (past-token-at .token-at .ensures) (past-token .token .given .1) in
+    let forth = went-forth (past-letter-at .letter-at .ensures .answers) (past-read .read .given .1) in
     omega (arith, g .back, g .some, g .within)
 
 loop-again : tie.Need-loop-again Inv-loop μ-loop
 loop-again c =
-    let listed = c .before .before .before .before .before .before .before .before .before .before .letter-at .ensures in
-    let on = c .before .before .before .before .before .before .before .before .read .given .1 in
-    let g = told-sign (c .before .before .before .before .before .token-at .ensures) (c .before .before .before .token .given .1) (c .enum-told3 .given .1) in
-    (comes-then (c .before .before .before .before .before .before .before .before .before .before .before .loop .inv .0) (comes-then (went _ (listed .answers) on) (moves g refl refl refl)), ready-on g (went-ready (listed .answers) on), listed .sized)
+    let past-token = c .before .before .before in
+    let past-token-at = past-token .before .before in
+    let past-read = past-token-at .before .before .before in
+    let past-letter-at = past-read .before .before in
+    let past-loop = past-letter-at .before in
+    let listed = past-letter-at .letter-at .ensures in
+    let on = past-read .read .given .1 in
+    let g = told-sign (past-token-at .token-at .ensures) (past-token .token .given .1) (c .enum-told3 .given .1) in
+    (comes-then (past-loop .loop .inv .0) (comes-then (went _ (listed .answers) on) (moves g refl refl refl)), ready-on g (went-ready (listed .answers) on), listed .sized)
 
 refused-requires-2 : tie.Need-refused-requires-2 Inv-loop μ-loop
 refused-requires-2 c κs = search needs
 
 returns-4 : tie.Need-returns-4 Inv-loop μ-loop
 returns-4 c =
-    let listed = c .before .before .before .before .before .before .before .before .before .before .letter-at .ensures in
-    let on = c .before .before .before .before .before .before .before .before .read .given .1 in
+    let past-token = c .before .before .before in
+    let past-token-at = past-token .before .before in
+    let past-read = past-token-at .before .before .before in
+    let past-letter-at = past-read .before .before in
+    let past-loop = past-letter-at .before in
+    let listed = past-letter-at .letter-at .ensures in
+    let on = past-read .read .given .1 in
     refused-behind
     (c .refused2 .ensures)
     (listed .sized)
     (onward
-    (c .before .before .before .before .before .before .before .before .before .before .before .loop .inv .0)
-    (then _ (listed .answers) on (refuses-sign (c .before .before .before .before .before .token-at .ensures) (c .before .before .before .token .given .1) (c .before .match3 .keys3) refl)))
+    (past-loop .loop .inv .0)
+    (then _ (listed .answers) on (refuses-sign (past-token-at .token-at .ensures) (past-token .token .given .1) (c .before .match3 .keys3) refl)))
 
 pub letters-at-spec : {M : Type 1} → statement M
 letters-at-spec =

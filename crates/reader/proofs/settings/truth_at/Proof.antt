@@ -31,49 +31,73 @@ refuse-requires : tie.Need-refuse-requires
 refuse-requires c κs = search needs
 
 returns-2 : tie.Need-returns-2
-returns-2 c = λ a. then _ (c .before .before .before .before .before .before .sign-at .ensures Fixed.equals a refl) (c .before .before .before .before .read .given .1) (refuses (c .before .before .token-at .ensures) (c .before .match2 .keys2) (c .refuse .ensures))
+returns-2 c =
+    let past-read = c .before .before .before .before in
+    let past-sign-at = past-read .before .before in
+    λ a. then _ (past-sign-at .sign-at .ensures Fixed.equals a refl) (past-read .read .given .1) (refuses (c .before .before .token-at .ensures) (c .before .match2 .keys2) (c .refuse .ensures))
 
 enum-told-2 : tie.Need-enum-told-2
 enum-told-2 c = search needs
 
 sign-at-requires-2 : tie.Need-sign-at-requires-2
 sign-at-requires-2 c κs =
+    let past-token = c .before .before .before in
+    let past-token-at = past-token .before .before in
+    let past-read = past-token-at .before .before in
+    let past-sign-at = past-read .before .before in
     ready-on
-    (told-word (c .before .before .before .before .before .token-at .ensures) (c .before .before .before .token .given .1) (c .enum-told2 .given .1))
-    (went-ready (c .before .before .before .before .before .before .before .before .before .sign-at .ensures Fixed.equals [] refl) (c .before .before .before .before .before .before .before .read .given .1))
+    (told-word (past-token-at .token-at .ensures) (past-token .token .given .1) (c .enum-told2 .given .1))
+    (went-ready (past-sign-at .sign-at .ensures Fixed.equals [] refl) (past-read .read .given .1))
 
 enum-told-3 : tie.Need-enum-told-3
 enum-told-3 c = search needs
 
 sign-at-requires-3 : tie.Need-sign-at-requires-3
 sign-at-requires-3 c κs =
+    let past-token = c .before .before .before in
+    let past-token-at = past-token .before .before in
+    let past-read = past-token-at .before .before in
+    let past-sign-at = past-read .before .before in
     ready-on
-    (told-word (c .before .before .before .before .before .token-at .ensures) (c .before .before .before .token .given .1) (c .enum-told3 .given .1))
-    (went-ready (c .before .before .before .before .before .before .before .before .before .sign-at .ensures Fixed.equals [] refl) (c .before .before .before .before .before .before .before .read .given .1))
+    (told-word (past-token-at .token-at .ensures) (past-token .token .given .1) (c .enum-told3 .given .1))
+    (went-ready (past-sign-at .sign-at .ensures Fixed.equals [] refl) (past-read .read .given .1))
 
 refuse-requires-2 : tie.Need-refuse-requires-2
 refuse-requires-2 c κs = search needs
 
 returns-3 : tie.Need-returns-3
 returns-3 c =
+    let past-token = c .before .before .before .before in
+    let past-token-at = past-token .before .before in
+    let past-read = past-token-at .before .before in
+    let past-sign-at = past-read .before .before in
     λ a.
     then
     _
-    (c .before .before .before .before .before .before .before .before .before .before .sign-at .ensures Fixed.equals a refl)
-    (c .before .before .before .before .before .before .before .before .read .given .1)
-    (step (told-word (c .before .before .before .before .before .before .token-at .ensures) (c .before .before .before .before .token .given .1) (c .before .enum-told2 .given .1)) refl refl refl (c .sign-at2 .ensures Fixed.semicolon a refl))
+    (past-sign-at .sign-at .ensures Fixed.equals a refl)
+    (past-read .read .given .1)
+    (step (told-word (past-token-at .token-at .ensures) (past-token .token .given .1) (c .before .enum-told2 .given .1)) refl refl refl (c .sign-at2 .ensures Fixed.semicolon a refl))
 
 returns-4 : tie.Need-returns-4
 returns-4 c =
+    let past-token = c .before .before .before .before in
+    let past-token-at = past-token .before .before in
+    let past-read = past-token-at .before .before in
+    let past-sign-at = past-read .before .before in
     λ a.
     then
     _
-    (c .before .before .before .before .before .before .before .before .before .before .sign-at .ensures Fixed.equals a refl)
-    (c .before .before .before .before .before .before .before .before .read .given .1)
-    (step (told-word (c .before .before .before .before .before .before .token-at .ensures) (c .before .before .before .before .token .given .1) (c .before .enum-told3 .given .1)) refl refl refl (c .sign-at3 .ensures Fixed.semicolon a refl))
+    (past-sign-at .sign-at .ensures Fixed.equals a refl)
+    (past-read .read .given .1)
+    (step (told-word (past-token-at .token-at .ensures) (past-token .token .given .1) (c .before .enum-told3 .given .1)) refl refl refl (c .sign-at3 .ensures Fixed.semicolon a refl))
 
 returns-5 : tie.Need-returns-5
-returns-5 c = λ a. then _ (c .before .before .before .before .before .before .before .before .before .sign-at .ensures Fixed.equals a refl) (c .before .before .before .before .before .before .before .read .given .1) (refuses-word (c .before .before .before .before .before .token-at .ensures) (c .before .before .before .token .given .1) (c .before .match3 .keys3) (c .refuse2 .ensures))
+returns-5 c =
+    let past-token = c .before .before .before in
+    let past-token-at = past-token .before .before in
+    let past-read = past-token-at .before .before in
+    let past-sign-at = past-read .before .before in
+    λ a. then _ (past-sign-at .sign-at .ensures Fixed.equals a refl) (past-read .read .given .1) (refuses-word (past-token-at .token-at .ensures) (past-token .token .given .1) (c .before .match3 .keys3) (c .refuse2 .ensures))
 
 pub truth-at-spec : {M : Type 1} → statement M
 truth-at-spec =

@@ -189,22 +189,29 @@ block-at-returns-2 t c = refuses-sign (c .before .before .before .before .before
 
 block-at-returns-3 : (t : ℕ) → block-at-lts.Need-returns-3 (block-at-claims t) (block-at-at t) block-at.Post
 block-at-returns-3 t c =
-    break (told-sign (c .before .before .before .before .before .before .token-at .ensures) (c .before .before .before .before .token .given .1) (c .before .enum-told .given .1)) refl (none-left (c .before .before .before .before .before .before .before .before .args .left) (c .if1 .taken))
+    let past-token = c .before .before .before .before in
+    let past-token-at = past-token .before .before in
+    let start = past-token-at .before .before in
+    break (told-sign (past-token-at .token-at .ensures) (past-token .token .given .1) (c .before .enum-told .given .1)) refl (none-left (start .args .left) (c .if1 .taken))
 
 block-at-sub-statements-at : (t : ℕ) → block-at-lts.Need-sub-statements-at (block-at-claims t) (block-at-at t) block-at.Post
 block-at-sub-statements-at t c = omega arith
 
 block-at-statements-at-requires : (t : ℕ) → block-at-lts.Need-statements-at-requires (block-at-claims t) (block-at-at t) block-at.Post
 block-at-statements-at-requires t c κs =
-    let start = c .before .before .before .before .before .before .before .before in
-    let f = front-sign (c .before .before .before .before .before .before .token-at .ensures) (c .before .before .before .before .token .given .1) in
+    let past-token = c .before .before .before .before in
+    let past-token-at = past-token .before .before in
+    let start = past-token-at .before .before in
+    let f = front-sign (past-token-at .token-at .ensures) (past-token .token .given .1) in
     (omega (arith, start .pre .0, f .back, f .some, f .within), (ready-on f (start .pre .1 .0), (start .pre .1 .1 .0, omega (arith, start .pre .1 .1))))
 
 block-at-returns-4 : (t : ℕ) → block-at-lts.Need-returns-4 (block-at-claims t) (block-at-at t) block-at.Post
 block-at-returns-4 t c =
-    let start = c .before .before .before .before .before .before .before .before .before in
+    let past-token = c .before .before .before .before .before in
+    let past-token-at = past-token .before .before in
+    let start = past-token-at .before .before in
     step
-    (told-sign (c .before .before .before .before .before .before .before .token-at .ensures) (c .before .before .before .before .before .token .given .1) (c .before .before .enum-told .given .1))
+    (told-sign (past-token-at .token-at .ensures) (past-token .token .given .1) (c .before .before .enum-told .given .1))
     refl
     (some-left (start .args .left) (c .before .if1 .left))
     refl
@@ -264,13 +271,16 @@ branch-at-last-arm-requires t c κs = search needs
 
 branch-at-returns-2 : (t : ℕ) → branch-at-lts.Need-returns-2 (branch-at-claims t) (branch-at-at t) branch-at.Post branch-at-Inv-loop branch-at-μ-loop
 branch-at-returns-2 t c =
-    let start = c .before .before .before .before .before .before .before .before .before in
+    let past-arm = c .before .before .before .before in
+    let past-block-at = past-arm .before .before in
+    let past-loop = past-block-at .before in
+    let start = past-loop .before .before in
     let first = c .before .before .token-at .ensures in
     onward
-    (c .before .before .before .before .before .before .before .loop .inv .0)
+    (past-loop .loop .inv .0)
     (last-arm
-    (c .before .before .before .before .before .before .block-at .ensures)
-    (c .before .before .before .before .arm .given .1)
+    (past-block-at .block-at .ensures)
+    (past-arm .arm .given .1)
     first
     refl
     (not-sort Fixed.also (c .before .before .token-at .result) first (c .before .match2 .keys2))
@@ -285,14 +295,18 @@ branch-at-last-arm-requires-2 t c κs = search needs
 
 branch-at-returns-3 : (t : ℕ) → branch-at-lts.Need-returns-3 (branch-at-claims t) (branch-at-at t) branch-at.Post branch-at-Inv-loop branch-at-μ-loop
 branch-at-returns-3 t c =
-    let start = c .before .before .before .before .before .before .before .before .before .before .before .before in
     let at-token = c .before .before .before in
-    let first = c .before .before .before .before .before .token-at .ensures in
+    let past-token-at = at-token .before .before in
+    let past-arm = past-token-at .before .before in
+    let past-block-at = past-arm .before .before in
+    let past-loop = past-block-at .before in
+    let start = past-loop .before .before in
+    let first = past-token-at .token-at .ensures in
     onward
-    (c .before .before .before .before .before .before .before .before .before .before .loop .inv .0)
+    (past-loop .loop .inv .0)
     (last-arm
-    (c .before .before .before .before .before .before .before .before .before .block-at .ensures)
-    (c .before .before .before .before .before .before .before .arm .given .1)
+    (past-block-at .block-at .ensures)
+    (past-arm .arm .given .1)
     first
     (at-token .token .given .1)
     (not-word Fixed.also Word.Also (spelling "also") first refl refl (at-token .token .given .1) (c .before .match3 .keys2))
@@ -308,32 +322,50 @@ branch-at-returns-3 t c =
 
 branch-at-returns-4 : (t : ℕ) → branch-at-lts.Need-returns-4 (branch-at-claims t) (branch-at-at t) branch-at.Post branch-at-Inv-loop branch-at-μ-loop
 branch-at-returns-4 t c =
+    let past-token = c .before .before .before .before in
+    let past-token-at = past-token .before .before in
+    let past-arm = past-token-at .before .before in
+    let past-block-at = past-arm .before .before in
+    let past-loop = past-block-at .before in
+    let start = past-loop .before .before in
     onward
-    (c .before .before .before .before .before .before .before .before .before .before .before .loop .inv .0)
+    (past-loop .loop .inv .0)
     (then
     _
-    (c .before .before .before .before .before .before .before .before .before .before .block-at .ensures)
-    (c .before .before .before .before .before .before .before .before .arm .given .1)
-    (ninth-arm (16 - c .before .before .before .before .before .before .before .before .before .before .before .before .before .args .left) (c .before .before .before .before .before .before .before .before .before .before .before .loop .arms-read) (told-word (c .before .before .before .before .before .before .token-at .ensures) (c .before .before .before .before .token .given .1) (c .before .enum-told2 .given .1)) (c .if1 .taken)))
+    (past-block-at .block-at .ensures)
+    (past-arm .arm .given .1)
+    (ninth-arm (16 - start .args .left) (past-loop .loop .arms-read) (told-word (past-token-at .token-at .ensures) (past-token .token .given .1) (c .before .enum-told2 .given .1)) (c .if1 .taken)))
 
 branch-at-plus-requires : (t : ℕ) → branch-at-lts.Need-plus-requires (branch-at-claims t) (branch-at-at t) branch-at.Post branch-at-Inv-loop branch-at-μ-loop
-branch-at-plus-requires t c κs = omega (arith, went-ready (c .before .before .before .before .before .before .before .before .before .before .block-at .ensures) (c .before .before .before .before .before .before .before .before .arm .given .1))
+branch-at-plus-requires t c κs =
+    let past-arm = c .before .before .before .before .before .before .before .before in
+    let past-block-at = past-arm .before .before in
+    omega (arith, went-ready (past-block-at .block-at .ensures) (past-arm .arm .given .1))
 
 branch-at-add-arms-read : (t : ℕ) → branch-at-lts.Need-add-arms-read (branch-at-claims t) (branch-at-at t) branch-at.Post branch-at-Inv-loop branch-at-μ-loop
 branch-at-add-arms-read t c = omega arith
 
 branch-at-loop-less : (t : ℕ) → branch-at-lts.Need-loop-less (branch-at-claims t) (branch-at-at t) branch-at.Post branch-at-Inv-loop branch-at-μ-loop
 branch-at-loop-less t c =
-    let f = front-word (c .before .before .before .before .before .before .before .token-at .ensures) (c .before .before .before .before .before .token .given .1) in
-    omega (arith, went-forth (c .before .before .before .before .before .before .before .before .before .before .before .block-at .ensures) (c .before .before .before .before .before .before .before .before .before .arm .given .1), f .back, f .some, f .within)
+    let past-token = c .before .before .before .before .before in
+    let past-token-at = past-token .before .before in
+    let past-arm = past-token-at .before .before in
+    let past-block-at = past-arm .before .before in
+    let f = front-word (past-token-at .token-at .ensures) (past-token .token .given .1) in
+    omega (arith, went-forth (past-block-at .block-at .ensures) (past-arm .arm .given .1), f .back, f .some, f .within)
 
 branch-at-loop-again : (t : ℕ) → branch-at-lts.Need-loop-again (branch-at-claims t) (branch-at-at t) branch-at.Post branch-at-Inv-loop branch-at-μ-loop
 branch-at-loop-again t c =
-    let start = c .before .before .before .before .before .before .before .before .before .before .before .before .before .before in
-    let at-loop = c .before .before .before .before .before .before .before .before .before .before .before .before .loop in
-    let arm = c .before .before .before .before .before .before .before .before .before .before .before .block-at .ensures in
-    let read = c .before .before .before .before .before .before .before .before .before .arm .given .1 in
-    let f = told-word (c .before .before .before .before .before .before .before .token-at .ensures) (c .before .before .before .before .before .token .given .1) (c .before .before .enum-told2 .given .1) in
+    let past-token = c .before .before .before .before .before in
+    let past-token-at = past-token .before .before in
+    let past-arm = past-token-at .before .before in
+    let past-block-at = past-arm .before .before in
+    let past-loop = past-block-at .before in
+    let start = past-loop .before .before in
+    let at-loop = past-loop .loop in
+    let arm = past-block-at .block-at .ensures in
+    let read = past-arm .arm .given .1 in
+    let f = told-word (past-token-at .token-at .ensures) (past-token .token .given .1) (c .before .before .enum-told2 .given .1) in
     let few : at-loop .arms-read < 8 = omega (arith, c .before .if1 .left, at-loop .inv .3) in (
       comes-then (at-loop .inv .0) (comes-then (went _ arm read) (next-arm (16 - start .args .left) (at-loop .arms-read) f (at-loop .inv .2) few (c .plus .ensures))),
       ready-plus f (went-ready arm read) (c .plus .ensures) (omega arith) (omega arith),
@@ -407,7 +439,11 @@ if-at-enum-told-2 : (t : ℕ) → if-at-lts.Need-enum-told-2 (if-at-claims t) (i
 if-at-enum-told-2 t c = search needs
 
 if-at-returns-2 : (t : ℕ) → if-at-lts.Need-returns-2 (if-at-claims t) (if-at-at t) if-at.Post
-if-at-returns-2 t c = then _ (c .before .before .before .before .before .before .sign-at .ensures Fixed.opens (alphabetOf (c .before .before .before .before .before .before .before .before .args .letters)) refl) (c .before .before .before .before .read .given .1) (stop _ (c .before .before .guarded-at .ensures) (c .enum-told2 .given .1))
+if-at-returns-2 t c =
+    let past-read = c .before .before .before .before in
+    let past-sign-at = past-read .before .before in
+    let start = past-sign-at .before .before in
+    then _ (past-sign-at .sign-at .ensures Fixed.opens (alphabetOf (start .args .letters)) refl) (past-read .read .given .1) (stop _ (c .before .before .guarded-at .ensures) (c .enum-told2 .given .1))
 
 if-at-token-at-requires : (t : ℕ) → if-at-lts.Need-token-at-requires (if-at-claims t) (if-at-at t) if-at.Post
 if-at-token-at-requires t c κs = search needs
@@ -417,15 +453,20 @@ if-at-enum-known-token t c = search needs
 
 if-at-returns-3 : (t : ℕ) → if-at-lts.Need-returns-3 (if-at-claims t) (if-at-at t) if-at.Post
 if-at-returns-3 t c =
+    let past-guarded = c .before .before .before in
+    let past-guarded-at = past-guarded .before .before in
+    let past-read = past-guarded-at .before .before in
+    let past-sign-at = past-read .before .before in
+    let start = past-sign-at .before .before in
     let first = c .before .token-at .ensures in
     then
     _
-    (c .before .before .before .before .before .before .before .before .before .sign-at .ensures Fixed.opens (alphabetOf (c .before .before .before .before .before .before .before .before .before .before .before .args .letters)) refl)
-    (c .before .before .before .before .before .before .before .read .given .1)
+    (past-sign-at .sign-at .ensures Fixed.opens (alphabetOf (start .args .letters)) refl)
+    (past-read .read .given .1)
     (stay
     _
-    (c .before .before .before .before .before .guarded-at .ensures)
-    (c .before .before .before .guarded .given .1)
+    (past-guarded-at .guarded-at .ensures)
+    (past-guarded .guarded .given .1)
     (no-else-here first (not-sort Fixed.else (c .before .token-at .result) first (c .match3 .keys2))))
 
 if-at-enum-told-3 : (t : ℕ) → if-at-lts.Need-enum-told-3 (if-at-claims t) (if-at-at t) if-at.Post
@@ -433,36 +474,55 @@ if-at-enum-told-3 t c = search needs
 
 if-at-returns-4 : (t : ℕ) → if-at-lts.Need-returns-4 (if-at-claims t) (if-at-at t) if-at.Post
 if-at-returns-4 t c =
-    let first = c .before .before .before .before .token-at .ensures in
+    let past-token-at = c .before .before .before .before in
+    let past-guarded = past-token-at .before .before in
+    let past-guarded-at = past-guarded .before .before in
+    let past-read = past-guarded-at .before .before in
+    let past-sign-at = past-read .before .before in
+    let start = past-sign-at .before .before in
+    let first = past-token-at .token-at .ensures in
     then
     _
-    (c .before .before .before .before .before .before .before .before .before .before .before .before .sign-at .ensures Fixed.opens (alphabetOf (c .before .before .before .before .before .before .before .before .before .before .before .before .before .before .args .letters)) refl)
-    (c .before .before .before .before .before .before .before .before .before .before .read .given .1)
+    (past-sign-at .sign-at .ensures Fixed.opens (alphabetOf (start .args .letters)) refl)
+    (past-read .read .given .1)
     (stay
     _
-    (c .before .before .before .before .before .before .before .before .guarded-at .ensures)
-    (c .before .before .before .before .before .before .guarded .given .1)
+    (past-guarded-at .guarded-at .ensures)
+    (past-guarded .guarded .given .1)
     (no-else-here first (not-word Fixed.else Word.Else (spelling "else") first refl refl (c .before .before .token .given .1) (c .match4 .keys2))))
 
 if-at-block-at-requires : (t : ℕ) → if-at-lts.Need-block-at-requires (if-at-claims t) (if-at-at t) if-at.Post
 if-at-block-at-requires t c κs =
-    let start = c .before .before .before .before .before .before .before .before .before .before .before .before .before .before .before in
-    let opened = c .before .before .before .before .before .before .before .before .before .before .before .before .before .sign-at .ensures Fixed.opens (alphabetOf (c .before .before .before .before .before .before .before .before .before .before .before .before .before .before .before .args .letters)) refl in
-    let guarded = c .before .before .before .before .before .before .before .before .before .guarded-at .ensures in
-    let f = front-word (c .before .before .before .before .before .token-at .ensures) (c .before .before .before .token .given .1) in
-    (omega (arith, start .pre .0, went-forth opened (c .before .before .before .before .before .before .before .before .before .before .before .read .given .1), went-forth guarded (c .before .before .before .before .before .before .before .guarded .given .1), f .back, f .some, f .within), (ready-on f (went-ready guarded (c .before .before .before .before .before .before .before .guarded .given .1)), start .pre .1 .1))
+    let past-token = c .before .before .before in
+    let past-token-at = past-token .before .before in
+    let past-guarded = past-token-at .before .before in
+    let past-guarded-at = past-guarded .before .before in
+    let past-read = past-guarded-at .before .before in
+    let past-sign-at = past-read .before .before in
+    let start = past-sign-at .before .before in
+    let opened = past-sign-at .sign-at .ensures Fixed.opens (alphabetOf (start .args .letters)) refl in
+    let guarded = past-guarded-at .guarded-at .ensures in
+    let f = front-word (past-token-at .token-at .ensures) (past-token .token .given .1) in
+    (omega (arith, start .pre .0, went-forth opened (past-read .read .given .1), went-forth guarded (past-guarded .guarded .given .1), f .back, f .some, f .within), (ready-on f (went-ready guarded (past-guarded .guarded .given .1)), start .pre .1 .1))
 
 if-at-returns-5 : (t : ℕ) → if-at-lts.Need-returns-5 (if-at-claims t) (if-at-at t) if-at.Post
 if-at-returns-5 t c =
+    let past-token = c .before .before .before .before in
+    let past-token-at = past-token .before .before in
+    let past-guarded = past-token-at .before .before in
+    let past-guarded-at = past-guarded .before .before in
+    let past-read = past-guarded-at .before .before in
+    let past-sign-at = past-read .before .before in
+    let start = past-sign-at .before .before in
     then
     _
-    (c .before .before .before .before .before .before .before .before .before .before .before .before .before .before .sign-at .ensures Fixed.opens (alphabetOf (c .before .before .before .before .before .before .before .before .before .before .before .before .before .before .before .before .args .letters)) refl)
-    (c .before .before .before .before .before .before .before .before .before .before .before .before .read .given .1)
+    (past-sign-at .sign-at .ensures Fixed.opens (alphabetOf (start .args .letters)) refl)
+    (past-read .read .given .1)
     (then
     _
-    (c .before .before .before .before .before .before .before .before .before .before .guarded-at .ensures)
-    (c .before .before .before .before .before .before .before .before .guarded .given .1)
-    (step (told-word (c .before .before .before .before .before .before .token-at .ensures) (c .before .before .before .before .token .given .1) (c .before .enum-told3 .given .1)) refl refl refl (over _ (c .block-at .ensures))))
+    (past-guarded-at .guarded-at .ensures)
+    (past-guarded .guarded .given .1)
+    (step (told-word (past-token-at .token-at .ensures) (past-token .token .given .1) (c .before .enum-told3 .given .1)) refl refl refl (over _ (c .block-at .ensures))))
 
 abbrev statement-at-claims : ℕ → statement-at-lts.Claims
 statement-at-claims t = (
@@ -506,72 +566,96 @@ statement-at-enum-told : (t : ℕ) → statement-at-lts.Need-enum-told (statemen
 statement-at-enum-told t c = search needs
 
 statement-at-plus-requires : (t : ℕ) → statement-at-lts.Need-plus-requires (statement-at-claims t) (statement-at-at t) statement-at.Post
-statement-at-plus-requires t c κs = omega (arith, c .before .before .before .before .before .before .before .pre .1 .0)
+statement-at-plus-requires t c κs =
+    let start = c .before .before .before .before .before .before .before in
+    omega (arith, start .pre .1 .0)
 
 statement-at-move-at-requires : (t : ℕ) → statement-at-lts.Need-move-at-requires (statement-at-claims t) (statement-at-at t) statement-at.Post
 statement-at-move-at-requires t c κs =
-    let start = c .before .before .before .before .before .before .before .before in
-    let f = told-word (c .before .before .before .before .before .before .token-at .ensures) (c .before .before .before .before .token .given .1) (c .before .enum-told .given .1) in
+    let past-token = c .before .before .before .before in
+    let past-token-at = past-token .before .before in
+    let start = past-token-at .before .before in
+    let f = told-word (past-token-at .token-at .ensures) (past-token .token .given .1) (c .before .enum-told .given .1) in
     ready-plus f (start .pre .1 .0) (c .plus .ensures) (omega arith) (omega arith)
 
 statement-at-enum-told-2 : (t : ℕ) → statement-at-lts.Need-enum-told-2 (statement-at-claims t) (statement-at-at t) statement-at.Post
 statement-at-enum-told-2 t c = search needs
 
 statement-at-plus-requires-2 : (t : ℕ) → statement-at-lts.Need-plus-requires-2 (statement-at-claims t) (statement-at-at t) statement-at.Post
-statement-at-plus-requires-2 t c κs = omega (arith, c .before .before .before .before .before .before .before .pre .1 .0)
+statement-at-plus-requires-2 t c κs =
+    let start = c .before .before .before .before .before .before .before in
+    omega (arith, start .pre .1 .0)
 
 statement-at-goto-at-requires : (t : ℕ) → statement-at-lts.Need-goto-at-requires (statement-at-claims t) (statement-at-at t) statement-at.Post
 statement-at-goto-at-requires t c κs =
-    let start = c .before .before .before .before .before .before .before .before in
-    let f = told-word (c .before .before .before .before .before .before .token-at .ensures) (c .before .before .before .before .token .given .1) (c .before .enum-told2 .given .1) in
+    let past-token = c .before .before .before .before in
+    let past-token-at = past-token .before .before in
+    let start = past-token-at .before .before in
+    let f = told-word (past-token-at .token-at .ensures) (past-token .token .given .1) (c .before .enum-told2 .given .1) in
     ready-plus f (start .pre .1 .0) (c .plus2 .ensures) (omega arith) (omega arith)
 
 statement-at-enum-told-3 : (t : ℕ) → statement-at-lts.Need-enum-told-3 (statement-at-claims t) (statement-at-at t) statement-at.Post
 statement-at-enum-told-3 t c = search needs
 
 statement-at-plus-requires-3 : (t : ℕ) → statement-at-lts.Need-plus-requires-3 (statement-at-claims t) (statement-at-at t) statement-at.Post
-statement-at-plus-requires-3 t c κs = omega (arith, c .before .before .before .before .before .before .before .pre .1 .0)
+statement-at-plus-requires-3 t c κs =
+    let start = c .before .before .before .before .before .before .before in
+    omega (arith, start .pre .1 .0)
 
 statement-at-change-at-requires : (t : ℕ) → statement-at-lts.Need-change-at-requires (statement-at-claims t) (statement-at-at t) statement-at.Post
 statement-at-change-at-requires t c κs =
-    let start = c .before .before .before .before .before .before .before .before in
-    let f = told-word (c .before .before .before .before .before .before .token-at .ensures) (c .before .before .before .before .token .given .1) (c .before .enum-told3 .given .1) in
+    let past-token = c .before .before .before .before in
+    let past-token-at = past-token .before .before in
+    let start = past-token-at .before .before in
+    let f = told-word (past-token-at .token-at .ensures) (past-token .token .given .1) (c .before .enum-told3 .given .1) in
     ready-plus f (start .pre .1 .0) (c .plus3 .ensures) (omega arith) (omega arith)
 
 statement-at-enum-told-4 : (t : ℕ) → statement-at-lts.Need-enum-told-4 (statement-at-claims t) (statement-at-at t) statement-at.Post
 statement-at-enum-told-4 t c = search needs
 
 statement-at-plus-requires-4 : (t : ℕ) → statement-at-lts.Need-plus-requires-4 (statement-at-claims t) (statement-at-at t) statement-at.Post
-statement-at-plus-requires-4 t c κs = omega (arith, c .before .before .before .before .before .before .before .pre .1 .0)
+statement-at-plus-requires-4 t c κs =
+    let start = c .before .before .before .before .before .before .before in
+    omega (arith, start .pre .1 .0)
 
 statement-at-sign-at-requires : (t : ℕ) → statement-at-lts.Need-sign-at-requires (statement-at-claims t) (statement-at-at t) statement-at.Post
 statement-at-sign-at-requires t c κs =
-    let start = c .before .before .before .before .before .before .before .before in
-    let f = told-word (c .before .before .before .before .before .before .token-at .ensures) (c .before .before .before .before .token .given .1) (c .before .enum-told4 .given .1) in
+    let past-token = c .before .before .before .before in
+    let past-token-at = past-token .before .before in
+    let start = past-token-at .before .before in
+    let f = told-word (past-token-at .token-at .ensures) (past-token .token .given .1) (c .before .enum-told4 .given .1) in
     ready-plus f (start .pre .1 .0) (c .plus4 .ensures) (omega arith) (omega arith)
 
 statement-at-enum-told-5 : (t : ℕ) → statement-at-lts.Need-enum-told-5 (statement-at-claims t) (statement-at-at t) statement-at.Post
 statement-at-enum-told-5 t c = search needs
 
 statement-at-plus-requires-5 : (t : ℕ) → statement-at-lts.Need-plus-requires-5 (statement-at-claims t) (statement-at-at t) statement-at.Post
-statement-at-plus-requires-5 t c κs = omega (arith, c .before .before .before .before .before .before .before .pre .1 .0)
+statement-at-plus-requires-5 t c κs =
+    let start = c .before .before .before .before .before .before .before in
+    omega (arith, start .pre .1 .0)
 
 statement-at-sign-at-requires-2 : (t : ℕ) → statement-at-lts.Need-sign-at-requires-2 (statement-at-claims t) (statement-at-at t) statement-at.Post
 statement-at-sign-at-requires-2 t c κs =
-    let start = c .before .before .before .before .before .before .before .before in
-    let f = told-word (c .before .before .before .before .before .before .token-at .ensures) (c .before .before .before .before .token .given .1) (c .before .enum-told5 .given .1) in
+    let past-token = c .before .before .before .before in
+    let past-token-at = past-token .before .before in
+    let start = past-token-at .before .before in
+    let f = told-word (past-token-at .token-at .ensures) (past-token .token .given .1) (c .before .enum-told5 .given .1) in
     ready-plus f (start .pre .1 .0) (c .plus5 .ensures) (omega arith) (omega arith)
 
 statement-at-enum-told-6 : (t : ℕ) → statement-at-lts.Need-enum-told-6 (statement-at-claims t) (statement-at-at t) statement-at.Post
 statement-at-enum-told-6 t c = search needs
 
 statement-at-plus-requires-6 : (t : ℕ) → statement-at-lts.Need-plus-requires-6 (statement-at-claims t) (statement-at-at t) statement-at.Post
-statement-at-plus-requires-6 t c κs = omega (arith, c .before .before .before .before .before .before .before .pre .1 .0)
+statement-at-plus-requires-6 t c κs =
+    let start = c .before .before .before .before .before .before .before in
+    omega (arith, start .pre .1 .0)
 
 statement-at-if-at-requires : (t : ℕ) → statement-at-lts.Need-if-at-requires (statement-at-claims t) (statement-at-at t) statement-at.Post
 statement-at-if-at-requires t c κs =
-    let start = c .before .before .before .before .before .before .before .before in
-    let f = told-word (c .before .before .before .before .before .before .token-at .ensures) (c .before .before .before .before .token .given .1) (c .before .enum-told6 .given .1) in
+    let past-token = c .before .before .before .before in
+    let past-token-at = past-token .before .before in
+    let start = past-token-at .before .before in
+    let f = told-word (past-token-at .token-at .ensures) (past-token .token .given .1) (c .before .enum-told6 .given .1) in
     (omega (arith, start .pre .0, f .back, f .some, f .within), (ready-plus f (start .pre .1 .0) (c .plus6 .ensures) (omega arith) (omega arith), start .pre .1 .1 .1))
 
 statement-at-enum-told-7 : (t : ℕ) → statement-at-lts.Need-enum-told-7 (statement-at-claims t) (statement-at-at t) statement-at.Post
@@ -579,20 +663,26 @@ statement-at-enum-told-7 t c = search needs
 
 statement-at-while-at-requires : (t : ℕ) → statement-at-lts.Need-while-at-requires (statement-at-claims t) (statement-at-at t) statement-at.Post
 statement-at-while-at-requires t c κs =
-    let start = c .before .before .before .before .before .before .before in
-    let f = told-word (c .before .before .before .before .before .token-at .ensures) (c .before .before .before .token .given .1) (c .enum-told7 .given .1) in
+    let past-token = c .before .before .before in
+    let past-token-at = past-token .before .before in
+    let start = past-token-at .before .before in
+    let f = told-word (past-token-at .token-at .ensures) (past-token .token .given .1) (c .enum-told7 .given .1) in
     (omega (arith, start .pre .0, f .back, f .some, f .within), (ready-on f (start .pre .1 .0), start .pre .1 .1 .1))
 
 statement-at-enum-told-8 : (t : ℕ) → statement-at-lts.Need-enum-told-8 (statement-at-claims t) (statement-at-at t) statement-at.Post
 statement-at-enum-told-8 t c = search needs
 
 statement-at-plus-requires-7 : (t : ℕ) → statement-at-lts.Need-plus-requires-7 (statement-at-claims t) (statement-at-at t) statement-at.Post
-statement-at-plus-requires-7 t c κs = omega (arith, c .before .before .before .before .before .before .before .pre .1 .0)
+statement-at-plus-requires-7 t c κs =
+    let start = c .before .before .before .before .before .before .before in
+    omega (arith, start .pre .1 .0)
 
 statement-at-branch-at-requires : (t : ℕ) → statement-at-lts.Need-branch-at-requires (statement-at-claims t) (statement-at-at t) statement-at.Post
 statement-at-branch-at-requires t c κs =
-    let start = c .before .before .before .before .before .before .before .before in
-    let f = told-word (c .before .before .before .before .before .before .token-at .ensures) (c .before .before .before .before .token .given .1) (c .before .enum-told8 .given .1) in
+    let past-token = c .before .before .before .before in
+    let past-token-at = past-token .before .before in
+    let start = past-token-at .before .before in
+    let f = told-word (past-token-at .token-at .ensures) (past-token .token .given .1) (c .before .enum-told8 .given .1) in
     (omega (arith, start .pre .0, f .back, f .some, f .within), (ready-plus f (start .pre .1 .0) (c .plus7 .ensures) (omega arith) (omega arith), start .pre .1 .1 .1))
 
 statement-at-refuse-requires-2 : (t : ℕ) → statement-at-lts.Need-refuse-requires-2 (statement-at-claims t) (statement-at-at t) statement-at.Post
@@ -600,53 +690,70 @@ statement-at-refuse-requires-2 t c κs = search needs
 
 statement-at-returns-2 : (t : ℕ) → statement-at-lts.Need-returns-2 (statement-at-claims t) (statement-at-at t) statement-at.Post
 statement-at-returns-2 t c =
+    let past-token = c .before .before .before .before .before in
+    let past-token-at = past-token .before .before in
+    let start = past-token-at .before .before in
     eats
-    (told-word (c .before .before .before .before .before .before .before .token-at .ensures) (c .before .before .before .before .before .token .given .1) (c .before .before .enum-told .given .1))
+    (told-word (past-token-at .token-at .ensures) (past-token .token .given .1) (c .before .before .enum-told .given .1))
     refl
     refl
     (counts-plus _ (c .before .plus .ensures))
-    (over _ (c .move-at .ensures (alphabetOf (c .before .before .before .before .before .before .before .before .before .args .letters))))
+    (over _ (c .move-at .ensures (alphabetOf (start .args .letters))))
 
 statement-at-returns-3 : (t : ℕ) → statement-at-lts.Need-returns-3 (statement-at-claims t) (statement-at-at t) statement-at.Post
 statement-at-returns-3 t c =
+    let past-token = c .before .before .before .before .before in
+    let past-token-at = past-token .before .before in
+    let start = past-token-at .before .before in
     eats
-    (told-word (c .before .before .before .before .before .before .before .token-at .ensures) (c .before .before .before .before .before .token .given .1) (c .before .before .enum-told2 .given .1))
+    (told-word (past-token-at .token-at .ensures) (past-token .token .given .1) (c .before .before .enum-told2 .given .1))
     refl
     refl
     (counts-plus _ (c .before .plus2 .ensures))
-    (over _ (c .goto-at .ensures (alphabetOf (c .before .before .before .before .before .before .before .before .before .args .letters))))
+    (over _ (c .goto-at .ensures (alphabetOf (start .args .letters))))
 
 statement-at-returns-4 : (t : ℕ) → statement-at-lts.Need-returns-4 (statement-at-claims t) (statement-at-at t) statement-at.Post
 statement-at-returns-4 t c =
+    let past-token = c .before .before .before .before .before in
+    let past-token-at = past-token .before .before in
+    let start = past-token-at .before .before in
     eats
-    (told-word (c .before .before .before .before .before .before .before .token-at .ensures) (c .before .before .before .before .before .token .given .1) (c .before .before .enum-told3 .given .1))
+    (told-word (past-token-at .token-at .ensures) (past-token .token .given .1) (c .before .before .enum-told3 .given .1))
     refl
     refl
     (counts-plus _ (c .before .plus3 .ensures))
-    (over _ (c .change-at .ensures (alphabetOf (c .before .before .before .before .before .before .before .before .before .args .letters))))
+    (over _ (c .change-at .ensures (alphabetOf (start .args .letters))))
 
 statement-at-returns-5 : (t : ℕ) → statement-at-lts.Need-returns-5 (statement-at-claims t) (statement-at-at t) statement-at.Post
 statement-at-returns-5 t c =
+    let past-token = c .before .before .before .before .before in
+    let past-token-at = past-token .before .before in
+    let start = past-token-at .before .before in
     eats
-    (told-word (c .before .before .before .before .before .before .before .token-at .ensures) (c .before .before .before .before .before .token .given .1) (c .before .before .enum-told4 .given .1))
+    (told-word (past-token-at .token-at .ensures) (past-token .token .given .1) (c .before .before .enum-told4 .given .1))
     refl
     refl
     (counts-plus _ (c .before .plus4 .ensures))
-    (over _ (c .sign-at .ensures Fixed.semicolon (alphabetOf (c .before .before .before .before .before .before .before .before .before .args .letters)) refl))
+    (over _ (c .sign-at .ensures Fixed.semicolon (alphabetOf (start .args .letters)) refl))
 
 statement-at-returns-6 : (t : ℕ) → statement-at-lts.Need-returns-6 (statement-at-claims t) (statement-at-at t) statement-at.Post
 statement-at-returns-6 t c =
+    let past-token = c .before .before .before .before .before in
+    let past-token-at = past-token .before .before in
+    let start = past-token-at .before .before in
     eats
-    (told-word (c .before .before .before .before .before .before .before .token-at .ensures) (c .before .before .before .before .before .token .given .1) (c .before .before .enum-told5 .given .1))
+    (told-word (past-token-at .token-at .ensures) (past-token .token .given .1) (c .before .before .enum-told5 .given .1))
     refl
     refl
     (counts-plus _ (c .before .plus5 .ensures))
-    (over _ (c .sign-at2 .ensures Fixed.semicolon (alphabetOf (c .before .before .before .before .before .before .before .before .before .args .letters)) refl))
+    (over _ (c .sign-at2 .ensures Fixed.semicolon (alphabetOf (start .args .letters)) refl))
 
 statement-at-returns-7 : (t : ℕ) → statement-at-lts.Need-returns-7 (statement-at-claims t) (statement-at-at t) statement-at.Post
 statement-at-returns-7 t c =
+    let past-token = c .before .before .before .before .before in
+    let past-token-at = past-token .before .before in
     eats
-    (told-word (c .before .before .before .before .before .before .before .token-at .ensures) (c .before .before .before .before .before .token .given .1) (c .before .before .enum-told6 .given .1))
+    (told-word (past-token-at .token-at .ensures) (past-token .token .given .1) (c .before .before .enum-told6 .given .1))
     refl
     refl
     (counts-plus _ (c .before .plus6 .ensures))
@@ -654,8 +761,10 @@ statement-at-returns-7 t c =
 
 statement-at-returns-8 : (t : ℕ) → statement-at-lts.Need-returns-8 (statement-at-claims t) (statement-at-at t) statement-at.Post
 statement-at-returns-8 t c =
+    let past-token = c .before .before .before .before in
+    let past-token-at = past-token .before .before in
     eats
-    (told-word (c .before .before .before .before .before .before .token-at .ensures) (c .before .before .before .before .token .given .1) (c .before .enum-told7 .given .1))
+    (told-word (past-token-at .token-at .ensures) (past-token .token .given .1) (c .before .enum-told7 .given .1))
     refl
     refl
     refl
@@ -663,8 +772,10 @@ statement-at-returns-8 t c =
 
 statement-at-returns-9 : (t : ℕ) → statement-at-lts.Need-returns-9 (statement-at-claims t) (statement-at-at t) statement-at.Post
 statement-at-returns-9 t c =
+    let past-token = c .before .before .before .before .before in
+    let past-token-at = past-token .before .before in
     eats
-    (told-word (c .before .before .before .before .before .before .before .token-at .ensures) (c .before .before .before .before .before .token .given .1) (c .before .before .enum-told8 .given .1))
+    (told-word (past-token-at .token-at .ensures) (past-token .token .given .1) (c .before .before .enum-told8 .given .1))
     refl
     refl
     (counts-plus _ (c .before .plus7 .ensures))
@@ -725,8 +836,10 @@ statements-at-loop-less t c =
 
 statements-at-loop-again : (t : ℕ) → statements-at-lts.Need-loop-again (statements-at-claims t) (statements-at-at t) statements-at.Post statements-at-Inv-loop statements-at-μ-loop
 statements-at-loop-again t c =
-    let ate = c .before .before .before .statement-at .ensures .answers in
-    (comes-then (c .before .before .before .before .before .before .loop .inv .0) (went [] ate (c .before .read .given .1)), went-ready ate (c .before .read .given .1))
+    let past-statement-at = c .before .before .before in
+    let past-loop = past-statement-at .before .before .before in
+    let ate = past-statement-at .statement-at .ensures .answers in
+    (comes-then (past-loop .loop .inv .0) (went [] ate (c .before .read .given .1)), went-ready ate (c .before .read .given .1))
 
 statements-at-enum-told-2 : (t : ℕ) → statements-at-lts.Need-enum-told-2 (statements-at-claims t) (statements-at-at t) statements-at.Post statements-at-Inv-loop statements-at-μ-loop
 statements-at-enum-told-2 t c = search needs
@@ -735,12 +848,19 @@ statements-at-refuse-requires : (t : ℕ) → statements-at-lts.Need-refuse-requ
 statements-at-refuse-requires t c κs = search needs
 
 statements-at-returns-2 : (t : ℕ) → statements-at-lts.Need-returns-2 (statements-at-claims t) (statements-at-at t) statements-at.Post statements-at-Inv-loop statements-at-μ-loop
-statements-at-returns-2 t c = onward (c .before .before .before .before .before .before .loop .inv .0) (refuses-sign (c .before .before .before .before .before .token-at .ensures) (c .before .before .before .token .given .1) (c .before .match3 .keys2) (c .refuse .ensures))
+statements-at-returns-2 t c =
+    let past-token = c .before .before .before in
+    let past-token-at = past-token .before .before in
+    let past-loop = past-token-at .before in
+    onward (past-loop .loop .inv .0) (refuses-sign (past-token-at .token-at .ensures) (past-token .token .given .1) (c .before .match3 .keys2) (c .refuse .ensures))
 
 statements-at-returns-3 : (t : ℕ) → statements-at-lts.Need-returns-3 (statements-at-claims t) (statements-at-at t) statements-at.Post statements-at-Inv-loop statements-at-μ-loop
 statements-at-returns-3 t c =
-    let f = told-sign (c .before .before .before .before .before .token-at .ensures) (c .before .before .before .token .given .1) (c .enum-told2 .given .1) in
-    onward (c .before .before .before .before .before .before .loop .inv .0) (step f refl refl refl (done (ready-on f (c .before .before .before .before .before .before .loop .inv .1))))
+    let past-token = c .before .before .before in
+    let past-token-at = past-token .before .before in
+    let past-loop = past-token-at .before in
+    let f = told-sign (past-token-at .token-at .ensures) (past-token .token .given .1) (c .enum-told2 .given .1) in
+    onward (past-loop .loop .inv .0) (step f refl refl refl (done (ready-on f (past-loop .loop .inv .1))))
 
 abbrev while-at-claims : ℕ → while-at-lts.Claims
 while-at-claims t = (
@@ -780,21 +900,30 @@ while-at-refuse-requires-2 : (t : ℕ) → while-at-lts.Need-refuse-requires-2 (
 while-at-refuse-requires-2 t c κs = search needs
 
 while-at-returns-2 : (t : ℕ) → while-at-lts.Need-returns-2 (while-at-claims t) (while-at-at t) while-at.Post
-while-at-returns-2 t c = refuses-word (c .before .before .before .before .before .before .token-at .ensures) (c .before .before .before .token2 .given .1) (c .before .match3 .keys2) (c .refuse2 .ensures)
+while-at-returns-2 t c =
+    let past-token2 = c .before .before .before in
+    let past-token-at = past-token2 .before .before .before in
+    refuses-word (past-token-at .token-at .ensures) (past-token2 .token2 .given .1) (c .before .match3 .keys2) (c .refuse2 .ensures)
 
 while-at-plus-requires : (t : ℕ) → while-at-lts.Need-plus-requires (while-at-claims t) (while-at-at t) while-at.Post
-while-at-plus-requires t c κs = omega (arith, c .before .before .before .before .before .before .before .before .pre .1 .0)
+while-at-plus-requires t c κs =
+    let start = c .before .before .before .before .before .before .before .before in
+    omega (arith, start .pre .1 .0)
 
 while-at-block-at-requires : (t : ℕ) → while-at-lts.Need-block-at-requires (while-at-claims t) (while-at-at t) while-at.Post
 while-at-block-at-requires t c κs =
-    let start = c .before .before .before .before .before .before .before .before .before in
-    let f = told-word (c .before .before .before .before .before .before .before .token-at .ensures) (c .before .before .before .before .token2 .given .1) (c .before .enum-told .given .1) in
+    let past-token2 = c .before .before .before .before in
+    let past-token-at = past-token2 .before .before .before in
+    let start = past-token-at .before .before in
+    let f = told-word (past-token-at .token-at .ensures) (past-token2 .token2 .given .1) (c .before .enum-told .given .1) in
     (omega (arith, start .pre .0, f .back, f .some, f .within), (ready-plus f (start .pre .1 .0) (c .plus .ensures) (omega arith) (omega arith), start .pre .1 .1))
 
 while-at-returns-3 : (t : ℕ) → while-at-lts.Need-returns-3 (while-at-claims t) (while-at-at t) while-at.Post
 while-at-returns-3 t c =
+    let past-token2 = c .before .before .before .before .before in
+    let past-token-at = past-token2 .before .before .before in
     step
-    (told-word (c .before .before .before .before .before .before .before .before .token-at .ensures) (c .before .before .before .before .before .token2 .given .1) (c .before .before .enum-told .given .1))
+    (told-word (past-token-at .token-at .ensures) (past-token2 .token2 .given .1) (c .before .before .enum-told .given .1))
     refl
     refl
     (counts-plus _ (c .before .plus .ensures))
@@ -810,18 +939,24 @@ while-at-returns-4 : (t : ℕ) → while-at-lts.Need-returns-4 (while-at-claims 
 while-at-returns-4 t c = refuses-sign (c .before .before .before .before .before .token-at .ensures) (c .before .before .before .token .given .1) (c .before .match4 .keys2) (c .refuse3 .ensures)
 
 while-at-plus-requires-2 : (t : ℕ) → while-at-lts.Need-plus-requires-2 (while-at-claims t) (while-at-at t) while-at.Post
-while-at-plus-requires-2 t c κs = omega (arith, c .before .before .before .before .before .before .before .pre .1 .0)
+while-at-plus-requires-2 t c κs =
+    let start = c .before .before .before .before .before .before .before in
+    omega (arith, start .pre .1 .0)
 
 while-at-guarded-at-requires : (t : ℕ) → while-at-lts.Need-guarded-at-requires (while-at-claims t) (while-at-at t) while-at.Post
 while-at-guarded-at-requires t c κs =
-    let start = c .before .before .before .before .before .before .before .before in
-    let f = told-sign (c .before .before .before .before .before .before .token-at .ensures) (c .before .before .before .before .token .given .1) (c .before .enum-told2 .given .1) in
+    let past-token = c .before .before .before .before in
+    let past-token-at = past-token .before .before in
+    let start = past-token-at .before .before in
+    let f = told-sign (past-token-at .token-at .ensures) (past-token .token .given .1) (c .before .enum-told2 .given .1) in
     (omega (arith, start .pre .0, f .back, f .some, f .within), (ready-plus f (start .pre .1 .0) (c .plus2 .ensures) (omega arith) (omega arith), start .pre .1 .1))
 
 while-at-returns-5 : (t : ℕ) → while-at-lts.Need-returns-5 (while-at-claims t) (while-at-at t) while-at.Post
 while-at-returns-5 t c =
+    let past-token = c .before .before .before .before .before in
+    let past-token-at = past-token .before .before in
     step
-    (told-sign (c .before .before .before .before .before .before .before .token-at .ensures) (c .before .before .before .before .before .token .given .1) (c .before .before .enum-told2 .given .1))
+    (told-sign (past-token-at .token-at .ensures) (past-token .token .given .1) (c .before .before .enum-told2 .given .1))
     refl
     refl
     (counts-plus _ (c .before .plus2 .ensures))

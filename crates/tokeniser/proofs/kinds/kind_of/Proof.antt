@@ -39,7 +39,8 @@ returns-5 c =
 returns-6 : tie.Need-returns-6
 returns-6 c =
     let s = c .before .before .before .before .before .before in
-    by-range Alphabetic keys 97 26 (s .before .args .b) tt (s .match .rest) (omega arith) (omega arith)
+    let start = s .before in
+    by-range Alphabetic keys 97 26 (start .args .b) tt (s .match .rest) (omega arith) (omega arith)
 
 returns-7 : tie.Need-returns-7
 returns-7 c =
@@ -54,12 +55,14 @@ returns-8 c =
 returns-9 : tie.Need-returns-9
 returns-9 c =
     let s = c .before .before .before .before .before .before in
-    by-range Other keys 42 1 (s .before .args .b) tt (s .match .rest) (omega arith) (omega arith)
+    let start = s .before in
+    by-range Other keys 42 1 (start .args .b) tt (s .match .rest) (omega arith) (omega arith)
 
 returns-10 : tie.Need-returns-10
 returns-10 c =
     let s = c .before .before .before .before .before .before .before in
-    by-range Other keys 46 2 (s .before .args .b) tt (s .match .rest) (omega arith) (omega arith)
+    let start = s .before in
+    by-range Other keys 46 2 (start .args .b) tt (s .match .rest) (omega arith) (omega arith)
 
 returns-11 : tie.Need-returns-11
 returns-11 c =
@@ -74,7 +77,8 @@ returns-12 c =
 returns-13 : tie.Need-returns-13
 returns-13 c =
     let s = c .before .before .before .before .before .before .before in
-    by-range Other keys 126 130 (s .before .args .b) tt (s .match .rest) (omega arith) (omega arith)
+    let start = s .before in
+    by-range Other keys 126 130 (start .args .b) tt (s .match .rest) (omega arith) (omega arith)
 
 returns-14 : tie.Need-returns-14
 returns-14 c = by-key Sign signKeys (c .before .args .b) tt (c .match .keys5)
@@ -87,12 +91,14 @@ returns-15 c =
 returns-16 : tie.Need-returns-16
 returns-16 c =
     let s = c .before .before .before .before .before .before .before in
-    by-range Sign keys 43 3 (s .before .args .b) tt (s .match .rest) (omega arith) (omega arith)
+    let start = s .before in
+    by-range Sign keys 43 3 (start .args .b) tt (s .match .rest) (omega arith) (omega arith)
 
 returns-17 : tie.Need-returns-17
 returns-17 c =
     let s = c .before .before .before .before .before .before .before in
-    by-range Sign keys 123 3 (s .before .args .b) tt (s .match .rest) (omega arith) (omega arith)
+    let start = s .before in
+    by-range Sign keys 123 3 (start .args .b) tt (s .match .rest) (omega arith) (omega arith)
 
 returns-18 : tie.Need-returns-18
 returns-18 c = by-key White whiteKeys (c .before .args .b) tt (c .match .keys3)

@@ -1,0 +1,87 @@
+// The rows of an image, read where they stand, and where a source shows those that leave a state.
+// A reader takes any bytes for rows; a byte past the end counts as 0.
+use fields::first_row;
+use fields::row_count;
+use fields::two_at;
+use table::Row;
+use table::form;
+use table::source::Range;
+use table::source::Source;
+
+ghost use mathlib.Core.Path.{_≡_};
+ghost use Prim.Native.Nat.{_≤_};
+ghost use lib.ListN.{length};
+ghost use lib.Dec.{eqb};
+ghost use Rattle.table.specs.Table.{Row};
+ghost use Rattle.table.specs.Form.{wide};
+ghost use Rattle.table.specs.Fields.{rowFrom, rowOf, widthOf};
+ghost use Rattle.table.specs.RowCode.{rowIs};
+ghost use Rattle.table.specs.Source.{rangeOf};
+
+// How many bytes a row takes: eight in the one edition that there is.
+fn row_bytes(image: &[u8]) -> usize
+    ensures { λ r. ⌜ r ≡ wide (widthOf (now (image .entry))) ⌝ }
+{
+    form::ROW_BYTES
+}
+
+// A place where what stands for row i is read: where the row stands, or the end for a row past it, whose place need not fit a number.
+fn row_place(image: &[u8], i: usize) -> usize
+    ensures { λ r. ⌜ rowFrom (now (image .entry)) r ≡ rowOf (now (image .entry)) i ⌝ }
+{
+    if i < image.len() / form::ROW_BYTES {
+        first_row(image) + i * form::ROW_BYTES
+    } else {
+        image.len()
+    }
+}
+
+// Whether the row whose bytes start here leaves a state. A search asks this of every row that it is shown, so it reads no more than that.
+pub fn leaves(rows: &[u8], at: usize, state: usize) -> bool
+    ensures { λ r. ⌜ r ≡ eqb (rowFrom (now (rows .entry)) at .from) state ⌝ }
+{
+    two_at(rows, at) == state
+}
+
+// A place where the row is read whose bytes start here: this one, or the end if it is past that, since a place behind it need not fit a
+// number.
+fn place_of(rows: &[u8], at: usize) -> usize
+    ensures { λ r. ⌜ (r ≤ length (now (rows .entry))) × (rowFrom (now (rows .entry)) r ≡ rowFrom (now (rows .entry)) at) ⌝ }
+{
+    if at < rows.len() { at } else { rows.len() }
+}
+
+// The row whose bytes start here.
+pub fn row_here(rows: &[u8], at: usize) -> Row
+    ensures { λ r. ⌜ rowIs r ≡ rowFrom (now (rows .entry)) at ⌝ }
+{
+    let place = place_of(rows, at);
+    Row {
+        from: two_at(rows, place),
+        symbol: bits::byte_at(rows, place + 2),
+        test: bits::byte_at(rows, place + 3),
+        motion: bits::byte_at(rows, place + 4),
+        change: bits::byte_at(rows, place + 5),
+        to: two_at(rows, place + 6),
+    }
+}
+
+// Row i.
+pub fn row_at(image: &[u8], i: usize) -> Row
+    ensures { λ r. ⌜ rowIs r ≡ rowOf (now (image .entry)) i ⌝ }
+{
+    row_here(image, row_place(image, i))
+}
+
+// Where the rows that leave a state are shown.
+pub fn rows_of(source: Source, rows: &[u8], state: usize) -> Range
+    ensures { λ r. ⌜ r ≡ rangeOf source (now (rows .entry)) state ⌝ }
+{
+    match source {
+        Source::Image => Range {
+            first: first_row(rows),
+            many: row_count(rows),
+            apart: row_bytes(rows),
+        },
+    }
+}
