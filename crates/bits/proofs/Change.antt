@@ -17,21 +17,21 @@ use Rattle.bits.proofs.Digits.{numberWith, numberWithout, number-set, n
 digit-kept
     : (m : List ℕ) (p q v j : ℕ) → (p ≡ q → v / 2 ^ j % 2 ≡ getD m q 0 / 2 ^ j % 2)
     → getD (set m q v) p 0 / 2 ^ j % 2 ≡ getD m p 0 / 2 ^ j % 2
-digit-kept m p q v j kept = go (ℕ-discrete p q) (decLt q (length m))
+digit-kept m p q v j kept = by-cases (ℕ-discrete p q) (decLt q (length m))
   where
-    go : Dec (p ≡ q) → Dec (q < length m) → getD (set m q v) p 0 / 2 ^ j % 2 ≡ getD m p 0 / 2 ^ j % 2
-    go (yes e) (yes l) = rw (e, getD-set-same m q v 0 l) (kept e)
-    go (yes e) (no n) = rw (set-out m q v (omega arith)) refl
-    go (no n) d = rw (getD-set-other m q p v 0 n) refl
+    by-cases : Dec (p ≡ q) → Dec (q < length m) → getD (set m q v) p 0 / 2 ^ j % 2 ≡ getD m p 0 / 2 ^ j % 2
+    by-cases (yes e) (yes l) = rw (e, getD-set-same m q v 0 l) (kept e)
+    by-cases (yes e) (no n) = rw (set-out m q v (omega arith)) refl
+    by-cases (no n) d = rw (getD-set-other m q p v 0 n) refl
 
 -- the bytes of a changed list, if the change is a byte
 bytes-kept : (m : List ℕ) (q v : ℕ) → Bytes m → v < 256 → Bytes (set m q v)
-bytes-kept m q v bytes small i = go (ℕ-discrete i q) (decLt q (length m))
+bytes-kept m q v bytes small i = by-cases (ℕ-discrete i q) (decLt q (length m))
   where
-    go : Dec (i ≡ q) → Dec (q < length m) → getD (set m q v) i 0 < 256
-    go (yes e) (yes l) = rw (e, getD-set-same m q v 0 l) small
-    go (yes e) (no n) = rw (set-out m q v (omega arith)) (bytes i)
-    go (no n) d = rw (getD-set-other m q i v 0 n) (bytes i)
+    by-cases : Dec (i ≡ q) → Dec (q < length m) → getD (set m q v) i 0 < 256
+    by-cases (yes e) (yes l) = rw (e, getD-set-same m q v 0 l) small
+    by-cases (yes e) (no n) = rw (set-out m q v (omega arith)) (bytes i)
+    by-cases (no n) d = rw (getD-set-other m q i v 0 n) (bytes i)
 
 -- a byte past the end is 0, so each of its bits is
 pub bit-past : (m : List ℕ) (i : ℕ) → length m ≤ i / 8 → bit m i ≡ 0

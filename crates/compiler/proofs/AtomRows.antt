@@ -43,12 +43,12 @@ mark-symbol alphabet i letters e h l =
     sym
     (ap (λ (m : ℕ). getD (allSymbols alphabet) m 0) same
     ∙ getD-append-add (countUp 0 k) (leftMark ∷ rightMark ∷ []) n 0
-    ∙ go n (omega arith))
+    ∙ by-cases n (omega arith))
   where
-    go : (n : ℕ) → n < 2 → getD (leftMark ∷ rightMark ∷ []) n 0 ≡ n + leftMark
-    go zero l = refl
-    go (suc zero) l = refl
-    go (suc (suc n)) l = absurd (omega arith)
+    by-cases : (n : ℕ) → n < 2 → getD (leftMark ∷ rightMark ∷ []) n 0 ≡ n + leftMark
+    by-cases zero l = refl
+    by-cases (suc zero) l = refl
+    by-cases (suc (suc n)) l = absurd (omega arith)
 
 -- no rows
 pub writes-none : {out : List ℕ} {place : ℕ} → Writes out out place place (λ _. [])
@@ -109,14 +109,14 @@ without-other x y p q n = rw (ne-eqb y x n, symbolRows)
 symbols-append : (x : ℕ) (l m : List ℕ) (p q : ℕ) → symbolRows (without x (l ++ m)) p q ≡ symbolRows (without x l) p q ++ symbolRows (without x m) p q
 unfolding symbolRows without
 symbols-append x [] m p q = refl
-symbols-append x (y ∷ l) m p q = go (eqb y x) (symbols-append x l m p q)
+symbols-append x (y ∷ l) m p q = by-cases (eqb y x) (symbols-append x l m p q)
   where
-    go : (t : Bool)
+    by-cases : (t : Bool)
         → symbolRows (without x (l ++ m)) p q ≡ symbolRows (without x l) p q ++ symbolRows (without x m) p q
         → symbolRows (elim t [ true ↦ without x (l ++ m) | false ↦ y ∷ without x (l ++ m) ]) p q
         ≡ symbolRows (elim t [ true ↦ without x l | false ↦ y ∷ without x l ]) p q ++ symbolRows (without x m) p q
-    go true e = e
-    go false e = ap (λ (rows : List Row). testRow y eitherCounter p q ∷ rows) e
+    by-cases true e = e
+    by-cases false e = ap (λ (rows : List Row). testRow y eitherCounter p q ∷ rows) e
 
 module _ (x p q : ℕ) (alphabet : List ℕ) where
   -- the rows of the first symbols

@@ -228,13 +228,13 @@ zero-is-read : (equal : Bool) (digits : List ℕ) (p q : ℕ)
     → inForm digits ≡ true
     → zeroRead equal digits (record { place = p; end = q }) ≡ Found (Atom.Counter equal) q
 zero-is-read equal digits p q zero form =
-    go (inForm digits && leb (valueFrom 0 digits) 0) (ap (λ (b : Bool). b && leb (valueFrom 0 digits) 0) form ∙ ap (λ (n : ℕ). leb n 0) zero)
+    by-cases (inForm digits && leb (valueFrom 0 digits) 0) (ap (λ (b : Bool). b && leb (valueFrom 0 digits) 0) form ∙ ap (λ (n : ℕ). leb n 0) zero)
   where
-    go : (b : Bool)
+    by-cases : (b : Bool)
         → b ≡ true
         → elim b [ true ↦ Found (Atom.Counter equal) q | false ↦ Refused (record { number = 7; place = p }) ] ≡ Found (Atom.Counter equal) q
-    go true e = refl
-    go false e = absurd (true≢false (sym e))
+    by-cases true e = refl
+    by-cases false e = absurd (true≢false (sym e))
 
 number-found : {text : List ℕ} {from p : ℕ} {l : List ℕ} {us : Ts} {r : AtomRead} (equal : Bool)
     → Next text from (λ t. NumeralSays text equal t r)

@@ -102,11 +102,11 @@ first-seen {text} {from} r f same ts h =
 
 -- where there are tokens there is text
 pub here-some : {text : List ℕ} {from : ℕ} {t : Placed} {ts : List Placed} → Here text from (t ∷ ts) → from < length text
-here-some {text} {from} h = go (decLt from (length text))
+here-some {text} {from} h = by-cases (decLt from (length text))
   where
-    go : Dec (from < length text) → from < length text
-    go (yes l) = l
-    go (no n) = absurd (cons≢nil (comes (h .tokens) (end-first text from (omega arith)) .none))
+    by-cases : Dec (from < length text) → from < length text
+    by-cases (yes l) = l
+    by-cases (no n) = absurd (cons≢nil (comes (h .tokens) (end-first text from (omega arith)) .none))
 
 -- what is seen of a token ends behind it
 pub seen-behind : {text : List ℕ} {from p e b : ℕ} {t : Placed} {us : List Placed} {x : Word} {g : Sign} → SeenAs text from (t ∷ us) x g b p e → Behind text from e us

@@ -127,20 +127,20 @@ length-lead h = simp (length-append, length-field) (omega arith)
 
 -- what a letter's index is
 eqb-turned : (a b : ℕ) → eqb a b ≡ eqb b a
-eqb-turned a b = go (ℕ-discrete a b)
+eqb-turned a b = by-cases (ℕ-discrete a b)
   where
-    go : Dec (a ≡ b) → eqb a b ≡ eqb b a
-    go (yes e) = eq-eqb a b e ∙ sym (eq-eqb b a (sym e))
-    go (no n) = ne-eqb a b n ∙ sym (ne-eqb b a (λ e. n (sym e)))
+    by-cases : Dec (a ≡ b) → eqb a b ≡ eqb b a
+    by-cases (yes e) = eq-eqb a b e ∙ sym (eq-eqb b a (sym e))
+    by-cases (no n) = ne-eqb a b n ∙ sym (ne-eqb b a (λ e. n (sym e)))
 
 index-same : (xs : List ℕ) (b : ℕ) → indexOf b xs ≡ indexIn xs b
 unfolding indexOf indexAfter indexIn
 index-same [] b = refl
-index-same (x ∷ xs) b = ap (λ (t : Bool). indexAfter t (indexOf b xs)) (eqb-turned x b) ∙ go (eqb b x) (index-same xs b)
+index-same (x ∷ xs) b = ap (λ (t : Bool). indexAfter t (indexOf b xs)) (eqb-turned x b) ∙ by-cases (eqb b x) (index-same xs b)
   where
-    go : (t : Bool) → indexOf b xs ≡ indexIn xs b → indexAfter t (indexOf b xs) ≡ elim t [ true ↦ 0 | false ↦ suc (indexIn xs b) ]
-    go true e = refl
-    go false e = ap suc e
+    by-cases : (t : Bool) → indexOf b xs ≡ indexIn xs b → indexAfter t (indexOf b xs) ≡ elim t [ true ↦ 0 | false ↦ suc (indexIn xs b) ]
+    by-cases true e = refl
+    by-cases false e = ap suc e
 
 -- an index is counted from the first letter's place
 pub index-back : (b : ℕ) (out : List ℕ) {r n k i : ℕ} → r ≡ lettersPlace + indexOf b (slice lettersPlace (n + lettersPlace) out) → n ≡ k → indexOf b (slice lettersPlace (k + lettersPlace) out) ≡ i → r - lettersPlace ≡ i

@@ -48,11 +48,11 @@ use Rattle.construction.proofs.Symbols.{
 
 -- two tests of equality that pass together
 same-test : (a b c d : ℕ) → (a ≡ b → c ≡ d) → (c ≡ d → a ≡ b) → eqb a b ≡ eqb c d
-same-test a b c d f g = go (ℕ-discrete a b)
+same-test a b c d f g = by-cases (ℕ-discrete a b)
   where
-    go : Dec (a ≡ b) → eqb a b ≡ eqb c d
-    go (yes e) = eq-eqb a b e ∙ sym (eq-eqb c d (f e))
-    go (no n) = ne-eqb a b n ∙ sym (ne-eqb c d (λ e. n (g e)))
+    by-cases : Dec (a ≡ b) → eqb a b ≡ eqb c d
+    by-cases (yes e) = eq-eqb a b e ∙ sym (eq-eqb c d (f e))
+    by-cases (no n) = ne-eqb a b n ∙ sym (ne-eqb c d (λ e. n (g e)))
 
 -- a row of these fits what is read and the counter
 pub record LetsThrough (alphabet : List ℕ) (s : Symbol) (counter : ℕ) (rows : List Row) : Type 0 where
@@ -118,18 +118,18 @@ module _ (alphabet : List ℕ) (few : length alphabet ≤ 16) where
     fits-letter :
         (y b : ℕ) → y ≢ anySymbol → List·Memᴰ b alphabet → symbolFits alphabet y (Cell.letter b) ≡ eqb y (indexIn alphabet b)
     unfolding symbolFits
-    fits-letter y b any known = go (decLt y (length alphabet))
+    fits-letter y b any known = by-cases (decLt y (length alphabet))
       where
         stands : HasCode alphabet b (indexIn alphabet b)
         stands = index-stands alphabet b known
 
-        go : Dec (y < length alphabet) → symbolFits alphabet y (Cell.letter b) ≡ eqb y (indexIn alphabet b)
-        go (yes h) =
+        by-cases : Dec (y < length alphabet) → symbolFits alphabet y (Cell.letter b) ≡ eqb y (indexIn alphabet b)
+        by-cases (yes h) =
             rw (lt-ltb y (length alphabet) h, ne-eqb y anySymbol any)
             (or-false _ ∙ same-test (getD alphabet y 0) b y (indexIn alphabet b)
             (λ e. index-once alphabet y (indexIn alphabet b) different h (stands .below) (e ∙ sym (stands .finds)))
             (λ e. ap (λ (i : ℕ). getD alphabet i 0) e ∙ stands .finds))
-        go (no h) =
+        by-cases (no h) =
             rw (le-ltb y (length alphabet) (omega arith), ne-eqb y anySymbol any, ne-eqb y (indexIn alphabet b) (λ e. omega (arith, stands .below)))
 
     fits-code :

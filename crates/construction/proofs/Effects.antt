@@ -89,13 +89,13 @@ module _ (decrOnZero : Bool) where
 
   lowers : (n counter : ℕ) → n ≤ noChange → changed decrOnZero (noChange - n) counter ≡ lowered decrOnZero n counter
   unfolding changed lowered
-  lowers n counter h = go (decLe n counter)
+  lowers n counter h = by-cases (decLe n counter)
     where
-      go : Dec (n ≤ counter) → changed decrOnZero (noChange - n) counter ≡ lowered decrOnZero n counter
-      go (yes k) =
+      by-cases : Dec (n ≤ counter) → changed decrOnZero (noChange - n) counter ≡ lowered decrOnZero n counter
+      by-cases (yes k) =
           let difference : counter + (noChange - n) - noChange ≡ counter - n = omega arith in
           rw (le-leb noChange (counter + (noChange - n)) (omega arith), le-leb n counter k, difference)
-      go (no k) = rw (lt-leb noChange (counter + (noChange - n)) (omega arith), lt-leb n counter (omega arith))
+      by-cases (no k) = rw (lt-leb noChange (counter + (noChange - n)) (omega arith), lt-leb n counter (omega arith))
 
   -- a row that does not change the counter
   pub keeps : (counter : ℕ) → changed decrOnZero noChange counter ≡ some counter

@@ -132,17 +132,17 @@ laid-append {R} {A} {R′} {A′} {rows} {rows′} {accepting} {accepting′} f 
           every-append accepting
           (record { at = λ s m. inl (f .accepts .at s m) })
           (record { at = λ s m. inr (g .accepts .at s m) });
-      apart = λ r s m n. go r s (List·Memᴰ·append-cases rows m) (List·Memᴰ·append-cases accepting n);
+      apart = λ r s m n. by-cases r s (List·Memᴰ·append-cases rows m) (List·Memᴰ·append-cases accepting n);
     }
   where
-    go : (r : Row) (s : ℕ)
+    by-cases : (r : Row) (s : ℕ)
         → List·Memᴰ r rows ⊎ List·Memᴰ r rows′
         → List·Memᴰ s accepting ⊎ List·Memᴰ s accepting′
         → r .from ≢ s
-    go r s (inl m) (inl n) e = f .apart r s m n e
-    go r s (inl m) (inr n) e = x s (subst R e (f .from .at r m)) (g .accepts .at s n)
-    go r s (inr m) (inl n) e = y s (f .accepts .at s n) (subst R′ e (g .from .at r m))
-    go r s (inr m) (inr n) e = g .apart r s m n e
+    by-cases r s (inl m) (inl n) e = f .apart r s m n e
+    by-cases r s (inl m) (inr n) e = x s (subst R e (f .from .at r m)) (g .accepts .at s n)
+    by-cases r s (inr m) (inl n) e = y s (f .accepts .at s n) (subst R′ e (g .from .at r m))
+    by-cases r s (inr m) (inr n) e = g .apart r s m n e
 
 -- two parts' own, inside a larger part
 pub laid-own :

@@ -22,11 +22,11 @@ all-still-set (s ∷ ss) m j one = all-still-set ss (withBit m s) j (bit-set-kep
 pub bits-in : (ss m : List ℕ) (s : ℕ) → s / 8 < length m → List·Memᴰ s ss → bit (withBits m ss) s ≡ 1
 unfolding withBits
 bits-in [] m s h mem = absurd (List·Memᴰ·not-nil mem)
-bits-in (x ∷ xs) m s h mem = go (List·Memᴰ·cases-cons mem) (bits-in xs (withBit m x) s (rw length-withBit h))
+bits-in (x ∷ xs) m s h mem = by-cases (List·Memᴰ·cases-cons mem) (bits-in xs (withBit m x) s (rw length-withBit h))
   where
-    go : (s ≡ x) ⊎ List·Memᴰ s xs → (List·Memᴰ s xs → bit (withBits (withBit m x) xs) s ≡ 1) → bit (withBits (withBit m x) xs) s ≡ 1
-    go (inl e) rest = all-still-set xs (withBit m x) s (rw e (bit-set m x (rw e at h)))
-    go (inr d) rest = rest d
+    by-cases : (s ≡ x) ⊎ List·Memᴰ s xs → (List·Memᴰ s xs → bit (withBits (withBit m x) xs) s ≡ 1) → bit (withBits (withBit m x) xs) s ≡ 1
+    by-cases (inl e) rest = all-still-set xs (withBit m x) s (rw e (bit-set m x (rw e at h)))
+    by-cases (inr d) rest = rest d
 
 -- and every other bit is as it was
 pub bits-out : (ss m : List ℕ) (s : ℕ) → ¬ List·Memᴰ s ss → bit (withBits m ss) s ≡ bit m s
@@ -53,11 +53,11 @@ bits-zero ss n s absent = bits-out ss (replicate n 0) s absent ∙ bit-zeros n s
 
 -- so a bit that is 1 is that of a state of the list
 pub bits-only : (ss : List ℕ) (n s : ℕ) → bit (withBits (replicate n 0) ss) s ≡ 1 → List·Memᴰ s ss
-bits-only ss n s one = go (isIn s ss) refl
+bits-only ss n s one = by-cases (isIn s ss) refl
   where
-    go : (t : Bool) → isIn s ss ≡ t → List·Memᴰ s ss
-    go true found = isIn-mem s ss found
-    go false found =
+    by-cases : (t : Bool) → isIn s ss ≡ t → List·Memᴰ s ss
+    by-cases true found = isIn-mem s ss found
+    by-cases false found =
         let none : bit (withBits (replicate n 0) ss) s ≡ 0 = bits-zero ss n s (λ m. true≢false (sym (mem-isIn s ss m) ∙ found)) in
         absurd (omega arith)
 

@@ -52,16 +52,16 @@ pub record HasCode (l : List ℕ) (b i : ℕ) : Type 0 where
 pub index-stands : (l : List ℕ) (b : ℕ) → List·Memᴰ b l → HasCode l b (indexIn l b)
 unfolding indexIn
 index-stands [] b m = absurd (List·Memᴰ·not-nil m)
-index-stands (x ∷ xs) b m = go (eqb b x) refl (List·Memᴰ·cases-cons m) (index-stands xs b)
+index-stands (x ∷ xs) b m = by-cases (eqb b x) refl (List·Memᴰ·cases-cons m) (index-stands xs b)
   where
-    go : (t : Bool)
+    by-cases : (t : Bool)
         → eqb b x ≡ t
         → (b ≡ x) ⊎ List·Memᴰ b xs
         → (List·Memᴰ b xs → HasCode xs b (indexIn xs b))
         → HasCode (x ∷ xs) b (elim t [ true ↦ 0 | false ↦ suc (indexIn xs b) ])
-    go true q m rest = record { below = suc-le-suc zero-le; finds = sym (eqb-true b x q) }
-    go false q (inl e) rest = absurd (eqb-false b x q e)
-    go false q (inr m) rest = record { below = suc-le-suc (rest m .below); finds = rest m .finds }
+    by-cases true q m rest = record { below = suc-le-suc zero-le; finds = sym (eqb-true b x q) }
+    by-cases false q (inl e) rest = absurd (eqb-false b x q e)
+    by-cases false q (inr m) rest = record { below = suc-le-suc (rest m .below); finds = rest m .finds }
 
 -- what stands at an index is a member
 pub getD-mem : (l : List ℕ) (i : ℕ) → i < length l → List·Memᴰ (getD l i 0) l
@@ -91,25 +91,25 @@ length-countUp n (suc many) = ap suc (length-countUp (suc n) many)
 pub mem-countUp : (many n x : ℕ) → n ≤ x → x < n + many → List·Memᴰ x (countUp n many)
 unfolding countUp
 mem-countUp zero n x h k = absurd (omega arith)
-mem-countUp (suc many) n x h k = go (ℕ-discrete x n) (mem-countUp many (suc n) x)
+mem-countUp (suc many) n x h k = by-cases (ℕ-discrete x n) (mem-countUp many (suc n) x)
   where
-    go : Dec (x ≡ n)
+    by-cases : Dec (x ≡ n)
         → (suc n ≤ x → x < suc n + many → List·Memᴰ x (countUp (suc n) many))
         → List·Memᴰ x (n ∷ countUp (suc n) many)
-    go (yes e) rest = List·Memᴰ·head e
-    go (no e) rest = List·Memᴰ·tail (rest (omega arith) (omega arith))
+    by-cases (yes e) rest = List·Memᴰ·head e
+    by-cases (no e) rest = List·Memᴰ·tail (rest (omega arith) (omega arith))
 
 -- and nothing else
 pub countUp-mem : (many n x : ℕ) → List·Memᴰ x (countUp n many) → (n ≤ x) × (x < n + many)
 unfolding countUp
 countUp-mem zero n x m = absurd (List·Memᴰ·not-nil m)
-countUp-mem (suc many) n x m = go (List·Memᴰ·cases-cons m) (countUp-mem many (suc n) x)
+countUp-mem (suc many) n x m = by-cases (List·Memᴰ·cases-cons m) (countUp-mem many (suc n) x)
   where
-    go : (x ≡ n) ⊎ List·Memᴰ x (countUp (suc n) many)
+    by-cases : (x ≡ n) ⊎ List·Memᴰ x (countUp (suc n) many)
         → (List·Memᴰ x (countUp (suc n) many) → (suc n ≤ x) × (x < suc n + many))
         → (n ≤ x) × (x < n + suc many)
-    go (inl e) rest = omega arith
-    go (inr m) rest = omega (arith, rest m)
+    by-cases (inl e) rest = omega arith
+    by-cases (inr m) rest = omega (arith, rest m)
 
 -- no number comes twice
 pub nodup-countUp : (many n : ℕ) → List·Nodup (countUp n many)
@@ -139,32 +139,32 @@ without-absent x (y ∷ ys) absent =
 pub length-without : (x : ℕ) (l : List ℕ) → List·Nodup l → List·Memᴰ x l → suc (length (without x l)) ≡ length l
 length-without x [] once m = absurd (List·Memᴰ·not-nil m)
 length-without x (y ∷ ys) once m =
-    go (ℕ-discrete y x) (nodup-cons .0 once) (List·Memᴰ·cases-cons m) (length-without x ys)
+    by-cases (ℕ-discrete y x) (nodup-cons .0 once) (List·Memᴰ·cases-cons m) (length-without x ys)
   where
-    go : Dec (y ≡ x)
+    by-cases : Dec (y ≡ x)
         → (¬ List·Mem y ys) × List·Nodup ys
         → (x ≡ y) ⊎ List·Memᴰ x ys
         → (List·Nodup ys → List·Memᴰ x ys → suc (length (without x ys)) ≡ length ys)
         → suc (length (without x (y ∷ ys))) ≡ suc (length ys)
-    go (yes e) once m rest =
+    by-cases (yes e) once m rest =
         ap (λ (l : List ℕ). suc (length l))
         (drops x y ys e ∙ without-absent x ys (λ d. once .0 ∣ Memᴰ·cast e d ∣₁))
-    go (no e) once (inl q) rest = absurd (e (sym q))
-    go (no e) once (inr m) rest = ap (λ (l : List ℕ). suc (length l)) (keeps x y ys e) ∙ ap suc (rest (once .1) m)
+    by-cases (no e) once (inl q) rest = absurd (e (sym q))
+    by-cases (no e) once (inr m) rest = ap (λ (l : List ℕ). suc (length l)) (keeps x y ys e) ∙ ap suc (rest (once .1) m)
 
 -- what is left is another element
 pub without-mem : (x y : ℕ) (l : List ℕ) → List·Memᴰ y (without x l) → (y ≢ x) × List·Memᴰ y l
 unfolding without
 without-mem x y [] m = absurd (List·Memᴰ·not-nil m)
-without-mem x y (z ∷ zs) m = go (eqb z x) refl m (without-mem x y zs)
+without-mem x y (z ∷ zs) m = by-cases (eqb z x) refl m (without-mem x y zs)
   where
-    go : (t : Bool)
+    by-cases : (t : Bool)
         → eqb z x ≡ t
         → List·Memᴰ y (elim t [ true ↦ without x zs | false ↦ z ∷ without x zs ])
         → (List·Memᴰ y (without x zs) → (y ≢ x) × List·Memᴰ y zs)
         → (y ≢ x) × List·Memᴰ y (z ∷ zs)
-    go true q m rest = (rest m .0, List·Memᴰ·tail (rest m .1))
-    go false q m rest =
+    by-cases true q m rest = (rest m .0, List·Memᴰ·tail (rest m .1))
+    by-cases false q m rest =
         ⊎-elim
         (λ (e : y ≡ z). (λ f. eqb-false z x q (sym e ∙ f), List·Memᴰ·head e))
         (λ d. (rest d .0, List·Memᴰ·tail (rest d .1)))
@@ -174,17 +174,17 @@ without-mem x y (z ∷ zs) m = go (eqb z x) refl m (without-mem x y zs)
 pub mem-without : (x y : ℕ) (l : List ℕ) → y ≢ x → List·Memᴰ y l → List·Memᴰ y (without x l)
 unfolding without
 mem-without x y [] other m = m
-mem-without x y (z ∷ zs) other m = go (eqb z x) refl (List·Memᴰ·cases-cons m) (mem-without x y zs other)
+mem-without x y (z ∷ zs) other m = by-cases (eqb z x) refl (List·Memᴰ·cases-cons m) (mem-without x y zs other)
   where
-    go : (t : Bool)
+    by-cases : (t : Bool)
         → eqb z x ≡ t
         → (y ≡ z) ⊎ List·Memᴰ y zs
         → (List·Memᴰ y zs → List·Memᴰ y (without x zs))
         → List·Memᴰ y (elim t [ true ↦ without x zs | false ↦ z ∷ without x zs ])
-    go true q (inl e) rest = absurd (other (e ∙ eqb-true z x q))
-    go true q (inr m) rest = rest m
-    go false q (inl e) rest = List·Memᴰ·head e
-    go false q (inr m) rest = List·Memᴰ·tail (rest m)
+    by-cases true q (inl e) rest = absurd (other (e ∙ eqb-true z x q))
+    by-cases true q (inr m) rest = rest m
+    by-cases false q (inl e) rest = List·Memᴰ·head e
+    by-cases false q (inr m) rest = List·Memᴰ·tail (rest m)
 
 -- with k letters there are k + 2 symbols
 pub length-symbols : (alphabet : List ℕ) → length (allSymbols alphabet) ≡ length alphabet + 2
@@ -260,10 +260,10 @@ pub symbolRows-mem :
     → (x : ℕ) × List·Memᴰ x xs × (r ≡ testRow x eitherCounter p q)
 unfolding symbolRows
 symbolRows-mem [] p q r m = absurd (List·Memᴰ·not-nil m)
-symbolRows-mem (x ∷ xs) p q r m = go (List·Memᴰ·cases-cons m) (symbolRows-mem xs p q r)
+symbolRows-mem (x ∷ xs) p q r m = by-cases (List·Memᴰ·cases-cons m) (symbolRows-mem xs p q r)
   where
-    go : (r ≡ testRow x eitherCounter p q) ⊎ List·Memᴰ r (symbolRows xs p q)
+    by-cases : (r ≡ testRow x eitherCounter p q) ⊎ List·Memᴰ r (symbolRows xs p q)
         → (List·Memᴰ r (symbolRows xs p q) → (y : ℕ) × List·Memᴰ y xs × (r ≡ testRow y eitherCounter p q))
         → (y : ℕ) × List·Memᴰ y (x ∷ xs) × (r ≡ testRow y eitherCounter p q)
-    go (inl e) rest = (x, List·Memᴰ·head refl, e)
-    go (inr d) rest = let f = rest d in (f .0, List·Memᴰ·tail (f .1), f .2)
+    by-cases (inl e) rest = (x, List·Memᴰ·head refl, e)
+    by-cases (inr d) rest = let f = rest d in (f .0, List·Memᴰ·tail (f .1), f .2)

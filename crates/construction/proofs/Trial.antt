@@ -36,11 +36,11 @@ pub known-symbol :
     → Known alphabet (symbolOn word cell)
 unfolding symbolOn
 known-symbol alphabet word letters zero = tt
-known-symbol alphabet word letters (suc i) = go (ltb i (length word)) refl
+known-symbol alphabet word letters (suc i) = by-cases (ltb i (length word)) refl
   where
-    go : (b : Bool) → ltb i (length word) ≡ b → Known alphabet (cond b (letter (getD word i 0)) rightMark)
-    go true e = letters i (ltb-true i (length word) e)
-    go false e = tt
+    by-cases : (b : Bool) → ltb i (length word) ≡ b → Known alphabet (cond b (letter (getD word i 0)) rightMark)
+    by-cases true e = letters i (ltb-true i (length word) e)
+    by-cases false e = tt
 
 -- a program without faults, with its own table
 unfoldable pub trial :

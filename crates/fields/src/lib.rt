@@ -1,7 +1,6 @@
 // What the fields of an image say, read where they stand.
 // A reader takes any bytes for an image; a byte past the end counts as 0.
 use table::form;
-
 ghost use mathlib.Core.Path.{_≡_};
 ghost use Prim.Native.Nat.{_+_, _*_};
 ghost use Rattle.bits.specs.Bit.{bit};

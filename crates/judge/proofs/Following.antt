@@ -48,11 +48,11 @@ shown-none : {rows : List ℕ} {range : Range} (r : Row) → ¬ Shown rows range
 shown-none r shown = omega (arith, shown .low)
 
 shown-more : {rows : List ℕ} {range : Range} (j : ℕ) (q : Row) → Shown rows range (j + 1) q → Shown rows range j q ⊎ (q ≡ rowIn rows range j)
-shown-more {rows} {range} j q shown = go (ℕ-discrete (shown .number) j)
+shown-more {rows} {range} j q shown = by-cases (ℕ-discrete (shown .number) j)
   where
-    go : Dec (shown .number ≡ j) → Shown rows range j q ⊎ (q ≡ rowIn rows range j)
-    go (yes e) = inr (shown .is ∙ ap (rowIn rows range) e)
-    go (no other) = inl (record { number = shown .number; low = omega (arith, shown .low); is = shown .is })
+    by-cases : Dec (shown .number ≡ j) → Shown rows range j q ⊎ (q ≡ rowIn rows range j)
+    by-cases (yes e) = inr (shown .is ∙ ap (rowIn rows range) e)
+    by-cases (no other) = inl (record { number = shown .number; low = omega (arith, shown .low); is = shown .is })
 
 -- where the row after the next one stands
 pub place-again : (range : Range) (j : ℕ) {at apart : ℕ} → at ≡ placeIn range j → apart ≡ range .apart → at + apart ≡ placeIn range (j + 1)

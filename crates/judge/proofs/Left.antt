@@ -55,20 +55,20 @@ module _ (m : List ℕ) (i : ℕ) where
 
   following-zero : ¬ Followed m i → following m i ≡ 0
   unfolding following
-  following-zero other = go (ℕ-discrete (bit m i) 1) (ℕ-discrete (bit m (i + situations)) 0)
+  following-zero other = by-cases (ℕ-discrete (bit m i) 1) (ℕ-discrete (bit m (i + situations)) 0)
     where
-      go : Dec (bit m i ≡ 1) → Dec (bit m (i + situations) ≡ 0) → bit m i - bit m (i + situations) ≡ 0
-      go (yes one) (yes none) = absurd (other (record { reached = one; notPending = none }))
-      go (yes one) (no k) = omega (arith, bit-zero-or-one m i)
-      go (no k) z = omega (arith, bit-zero-or-one m i)
+      by-cases : Dec (bit m i ≡ 1) → Dec (bit m (i + situations) ≡ 0) → bit m i - bit m (i + situations) ≡ 0
+      by-cases (yes one) (yes none) = absurd (other (record { reached = one; notPending = none }))
+      by-cases (yes one) (no k) = omega (arith, bit-zero-or-one m i)
+      by-cases (no k) z = omega (arith, bit-zero-or-one m i)
 
   followed-or-not : Dec (Followed m i)
-  followed-or-not = go (ℕ-discrete (bit m i) 1) (ℕ-discrete (bit m (i + situations)) 0)
+  followed-or-not = by-cases (ℕ-discrete (bit m i) 1) (ℕ-discrete (bit m (i + situations)) 0)
     where
-      go : Dec (bit m i ≡ 1) → Dec (bit m (i + situations) ≡ 0) → Dec (Followed m i)
-      go (yes one) (yes none) = yes (record { reached = one; notPending = none })
-      go (yes one) (no k) = no (λ f. k (f .notPending))
-      go (no k) z = no (λ f. k (f .reached))
+      by-cases : Dec (bit m i ≡ 1) → Dec (bit m (i + situations) ≡ 0) → Dec (Followed m i)
+      by-cases (yes one) (yes none) = yes (record { reached = one; notPending = none })
+      by-cases (yes one) (no k) = no (λ f. k (f .notPending))
+      by-cases (no k) z = no (λ f. k (f .reached))
 
 -- where what is followed stays followed and one more situation is, fewer are left
 pub left-falls : (m m′ : List ℕ) → Keeps m m′ → (i : ℕ) → i < situations → ¬ Followed m i → Followed m′ i → left m′ < left m

@@ -26,11 +26,11 @@ marked-both m n l i zero one both = both ∙ ap (λ (k : List ℕ). withBit k (i
 
 -- a property of marks that both have
 marking : (P : List ℕ → Type 0) (m : List ℕ) (i : ℕ) → (bit m i ≡ 1 → P m) → (¬ (bit m i ≡ 1) → P (withBit (withBit m i) (i + situations))) → P (marked m i)
-marking P m i same new = go (ℕ-discrete (bit m i) 1)
+marking P m i same new = by-cases (ℕ-discrete (bit m i) 1)
   where
-    go : Dec (bit m i ≡ 1) → P (marked m i)
-    go (yes one) = subst P (sym (marked-same m i one)) (same one)
-    go (no zero) = subst P (sym (marked-new m i zero)) (new zero)
+    by-cases : Dec (bit m i ≡ 1) → P (marked m i)
+    by-cases (yes one) = subst P (sym (marked-same m i one)) (same one)
+    by-cases (no zero) = subst P (sym (marked-new m i zero)) (new zero)
 
 module _ (m : List ℕ) (i : ℕ) where
   -- the marks stay as many

@@ -70,7 +70,7 @@ module _ {t : Table} {w : List ℕ} {L : ℕ} {m : List ℕ} {over : Bool} {curr
     begun = at .begun;
     sound = at .sound;
     pending = at .pending;
-    followed = λ j q lowj f listed rest. go j q lowj f listed rest (ℕ-discrete j current);
+    followed = λ j q lowj f listed rest. by-cases j q lowj f listed rest (ℕ-discrete j current);
     passed = at .passed;
   }
     where
@@ -79,10 +79,10 @@ module _ {t : Table} {w : List ℕ} {L : ℕ} {m : List ℕ} {over : Bool} {curr
       this j q lowj f listed e (inl past) = at .followed j q lowj f listed (λ e′. past)
       this j q lowj f listed e (inr same) = rw (e, same) done
 
-      go : (j : ℕ) (q : Row) → j < situations → Followed m j → List·Memᴰ q (t .rows) → (j ≡ current → Next q)
+      by-cases : (j : ℕ) (q : Row) → j < situations → Followed m j → List·Memᴰ q (t .rows) → (j ≡ current → Next q)
           → Dec (j ≡ current) → RowDone t w L m over (situationOf j) q
-      go j q lowj f listed rest (yes e) = this j q lowj f listed e (one q (rest e))
-      go j q lowj f listed rest (no k) = at .followed j q lowj f listed (λ e. absurd (k e))
+      by-cases j q lowj f listed rest (yes e) = this j q lowj f listed e (one q (rest e))
+      by-cases j q lowj f listed rest (no k) = at .followed j q lowj f listed (λ e. absurd (k e))
 
   -- a step above the limit may be noted
   noted : Passes t w L → Searching t w L m true current Past
@@ -110,15 +110,15 @@ module _ {t : Table} {w : List ℕ} {L : ℕ} {m : List ℕ} {over : Bool} {curr
     begun = at .begun;
     sound = at .sound;
     pending = at .pending;
-    followed = λ j r low f listed rest. go j r low f listed (ℕ-discrete (r .from) (situationOf current .state)) (ℕ-discrete j current);
+    followed = λ j r low f listed rest. by-cases j r low f listed (ℕ-discrete (r .from) (situationOf current .state)) (ℕ-discrete j current);
     passed = at .passed;
   }
     where
-      go : (j : ℕ) (r : Row) → j < situations → Followed m j → List·Memᴰ r (t .rows) → Dec (r .from ≡ situationOf current .state)
+      by-cases : (j : ℕ) (r : Row) → j < situations → Followed m j → List·Memᴰ r (t .rows) → Dec (r .from ≡ situationOf current .state)
           → Dec (j ≡ current) → RowDone t w L m over (situationOf j) r
-      go j r low f listed (yes here) d = at .followed j r low f listed (λ e. all r listed here)
-      go j r low f listed (no other) (yes e) = rw e (done-never (other-state other))
-      go j r low f listed (no other) (no k) = at .followed j r low f listed (λ e. absurd (k e))
+      by-cases j r low f listed (yes here) d = at .followed j r low f listed (λ e. all r listed here)
+      by-cases j r low f listed (no other) (yes e) = rw e (done-never (other-state other))
+      by-cases j r low f listed (no other) (no k) = at .followed j r low f listed (λ e. absurd (k e))
 
 module _ {t : Table} {w : List ℕ} {L : ℕ} {m : List ℕ} {over : Bool} {current i : ℕ} {Past : Row → Type 0} {r : Row}
     (at : Searching t w L m over current Past) (low : i < situations) (reached : bit m i ≡ 1) (listed : List·Memᴰ r (t .rows))

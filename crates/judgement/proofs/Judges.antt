@@ -158,12 +158,12 @@ module _ {image word : List ℕ} {limit : ℕ} {before after : List ℕ} {r : �
 
 -- a place is below a million
 first-place : (image word : List ℕ) (limit : ℕ) (before : List ℕ) (n p : ℕ) → First (reasons image word limit before) n p → p < 1000000
-first-place image word limit before n p first = go (first-split n p (inputReasons image word limit) (marksReason before) first)
+first-place image word limit before n p first = by-cases (first-split n p (inputReasons image word limit) (marksReason before) first)
   where
-    go : First (inputReasons image word limit) n p ⊎ (None (inputReasons image word limit) × First (marksReason before) n p)
+    by-cases : First (inputReasons image word limit) n p ⊎ (None (inputReasons image word limit) × First (marksReason before) n p)
         → p < 1000000
-    go (inl front) = omega (arith, input-place image word limit n p front)
-    go (inr (_, last)) = first-has (λ n p. p < 1000000) (marksReason before) (λ n p r. omega (arith, r .1 .0), tt) last
+    by-cases (inl front) = omega (arith, input-place image word limit n p front)
+    by-cases (inr (_, last)) = first-has (λ n p. p < 1000000) (marksReason before) (λ n p r. omega (arith, r .1 .0), tt) last
 
 -- so the number of a refusal tells its own number and its place
 pub refused-bounds

@@ -19,12 +19,12 @@ use Rattle.judgement.proofs.Number.{Among, situationAt, number-below, a
 
 -- two bits of which each is 1 where the other is are equal
 same-bit : {a b : ℕ} → a < 2 → b < 2 → (a ≡ 1) ↔ (b ≡ 1) → a ≡ b
-same-bit {a} {b} la lb iff = go (ℕ-discrete a 1) (ℕ-discrete b 1)
+same-bit {a} {b} la lb iff = by-cases (ℕ-discrete a 1) (ℕ-discrete b 1)
   where
-    go : Dec (a ≡ 1) → Dec (b ≡ 1) → a ≡ b
-    go (yes p) q = p ∙ sym (iff .0 p)
-    go (no n) (yes q) = absurd (n (iff .1 q))
-    go (no n) (no m) = omega arith
+    by-cases : Dec (a ≡ 1) → Dec (b ≡ 1) → a ≡ b
+    by-cases (yes p) q = p ∙ sym (iff .0 p)
+    by-cases (no n) (yes q) = absurd (n (iff .1 q))
+    by-cases (no n) (no m) = omega arith
 
 -- how many bits are a situation's: 128 states, 64 cells and 32 counter values
 abbrev situations : ℕ

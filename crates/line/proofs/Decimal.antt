@@ -56,15 +56,15 @@ digits-fewest (suc k) (suc most) n rest f room =
 
 -- 20 digits hold every number of 64 bits
 pub fewest-short : (n k : ℕ) → Fewest 10 1 n k → n < 2 ^ 64 → k ≤ 20
-fewest-short n k f small = go (decLt 20 k)
+fewest-short n k f small = by-cases (decLt 20 k)
   where
-    go : Dec (20 < k) → k ≤ 20
-    go (yes more) =
+    by-cases : Dec (20 < k) → k ≤ 20
+    by-cases (yes more) =
         let high : 10 ^ (k - 1) ≤ n = f .2 (omega arith) in
         let later : 20 ≤ k - 1 = omega arith in
         let least : 10 ^ 20 ≤ 10 ^ (k - 1) = pow-le-pow-right {n = 10} (omega arith) later in
         absurd (omega arith)
-    go (no few) = omega arith
+    by-cases (no few) = omega arith
 
 pub decimal-is : (n k : ℕ) → Fewest 10 1 n k → k ≤ 20 → Io.digits 10 k n ≡ decimal n
 decimal-is n zero f room = absurd (omega (arith, f .0))
@@ -74,13 +74,13 @@ decimal-is n (suc k) f room = sym (append-nil (Io.digits 10 (suc k) n)) ∙ digi
 digits-short : (most n : ℕ) (rest : List ℕ) → length (digits most n rest) ≤ most + length rest
 unfolding digits
 digits-short zero n rest = omega arith
-digits-short (suc most) n rest = go (ltb n 10) (digits-short most (n / 10) ((n % 10 + 48) ∷ rest))
+digits-short (suc most) n rest = by-cases (ltb n 10) (digits-short most (n / 10) ((n % 10 + 48) ∷ rest))
   where
-    go : (t : Bool)
+    by-cases : (t : Bool)
         → length (digits most (n / 10) ((n % 10 + 48) ∷ rest)) ≤ most + length ((n % 10 + 48) ∷ rest)
         → length {A = ℕ} (elim t [ true ↦ (n + 48) ∷ rest | false ↦ digits most (n / 10) ((n % 10 + 48) ∷ rest) ]) ≤ suc most + length rest
-    go true h = omega arith
-    go false h = omega arith
+    by-cases true h = omega arith
+    by-cases false h = omega arith
 
 pub decimal-short : (n : ℕ) → length (decimal n) ≤ 20
 decimal-short n = digits-short 20 n []

@@ -54,14 +54,14 @@ module _ (t : Table) (w : List ℕ) (r : Row) (L cell counter : ℕ) where
       → OutcomeRight t w r L (stepFrom r cell counter) (outcomeOf L (moved w (r .move) cell) o)
   unfolding outcomeOf
   taken fits none e = λ u takes. Option·none-ne-some (u .counter) (sym e ∙ takes .counter)
-  taken fits (some n) e = go (decLe n L)
+  taken fits (some n) e = by-cases (decLe n L)
     where
       takes : Takes t w r (stepFrom r cell counter) (stepTo r (moved w (r .move) cell) n)
       takes = record { fits = fits; state = refl; cell = refl; counter = e }
 
-      go : Dec (n ≤ L) → OutcomeRight t w r L (stepFrom r cell counter) (cond (leb n L) (Goes (moved w (r .move) cell) n) OverLimit)
-      go (yes low) = rw (le-leb n L low) (takes, low)
-      go (no high) = rw (lt-leb n L (omega arith)) (stepTo r (moved w (r .move) cell) n, takes, omega arith)
+      by-cases : Dec (n ≤ L) → OutcomeRight t w r L (stepFrom r cell counter) (cond (leb n L) (Goes (moved w (r .move) cell) n) OverLimit)
+      by-cases (yes low) = rw (le-leb n L low) (takes, low)
+      by-cases (no high) = rw (lt-leb n L (omega arith)) (stepTo r (moved w (r .move) cell) n, takes, omega arith)
 
   -- both tests fit
   pub steps-on

@@ -62,14 +62,14 @@ limit-once a b = a .value ∙ sym (b .value)
 
 -- whether digits say a limit is decided
 pub limit-or-none : (digits : List ℕ) → ((limit : ℕ) × SaysLimit digits limit) ⊎ ((limit : ℕ) → ¬ SaysLimit digits limit)
-limit-or-none digits = go (decLt 0 (length digits)) (decLt 3 (length digits)) (every isDigit digits) refl
+limit-or-none digits = by-cases (decLt 0 (length digits)) (decLt 3 (length digits)) (every isDigit digits) refl
   where
-    go : Dec (0 < length digits) → Dec (3 < length digits) → (t : Bool) → every isDigit digits ≡ t
+    by-cases : Dec (0 < length digits) → Dec (3 < length digits) → (t : Bool) → every isDigit digits ≡ t
         → ((limit : ℕ) × SaysLimit digits limit) ⊎ ((limit : ℕ) → ¬ SaysLimit digits limit)
-    go (no none) long t is = inr (λ limit s. none (omega (arith, s .some)))
-    go (yes some) (yes long) t is = inr (λ limit s. omega (arith, s .few))
-    go (yes some) (no short) false is = inr (λ limit s. subst T is (s .each))
-    go (yes some) (no short) true is =
+    by-cases (no none) long t is = inr (λ limit s. none (omega (arith, s .some)))
+    by-cases (yes some) (yes long) t is = inr (λ limit s. omega (arith, s .few))
+    by-cases (yes some) (no short) false is = inr (λ limit s. subst T is (s .each))
+    by-cases (yes some) (no short) true is =
         inl (_, record { some = omega arith; few = omega arith; each = subst T (sym is) tt; value = refl })
 
 pub answers-said : {image word digits before after old line : List ℕ} {end : ℕ} (said : Limit) (limit : ℕ)
@@ -107,8 +107,8 @@ text-counts {after = after} a =
     (subst (λ (n : ℕ). Counts n after) (sym (a .image)) (image-counts (a .answer) (a .compiles)), stands-counts (a .stands))
 
 pub word-counts : {image word digits before after old line : List ℕ} {r : ℕ} → AnswersWord image word digits before after old line r → Counts r line
-word-counts {digits = digits} {line = line} {r = r} a = go (limit-or-none digits)
+word-counts {digits = digits} {line = line} {r = r} a = by-cases (limit-or-none digits)
   where
-    go : ((limit : ℕ) × SaysLimit digits limit) ⊎ ((limit : ℕ) → ¬ SaysLimit digits limit) → Counts r line
-    go (inl (limit, says)) = stands-counts (a .answered limit says .stands)
-    go (inr none) = subst (λ (n : ℕ). Counts n line) (sym (a .unsaid none .0)) (counts 0 line (omega arith))
+    by-cases : ((limit : ℕ) × SaysLimit digits limit) ⊎ ((limit : ℕ) → ¬ SaysLimit digits limit) → Counts r line
+    by-cases (inl (limit, says)) = stands-counts (a .answered limit says .stands)
+    by-cases (inr none) = subst (λ (n : ℕ). Counts n line) (sym (a .unsaid none .0)) (counts 0 line (omega arith))

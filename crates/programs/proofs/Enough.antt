@@ -37,11 +37,11 @@ long-alike {short} {long} {before} (Answer.Refused n p) s l c =
 pub enough-of-a-text : (input : List ℕ) {before after : List ℕ} {answer : Answer}
     → Compiles (take 4097 input) before after answer
     → Compiles input before after answer
-enough-of-a-text input {before} {after} {answer} c = go (decLt 4097 (length input))
+enough-of-a-text input {before} {after} {answer} c = by-cases (decLt 4097 (length input))
   where
-    go : Dec (4097 < length input) → Compiles input before after answer
-    go (yes long) = long-alike answer (omega (arith, length-take-le 4097 input (omega arith))) (omega arith) c
-    go (no short) = subst (λ (t : List ℕ). Compiles t before after answer) (take-all 4097 input (omega arith)) c
+    by-cases : Dec (4097 < length input) → Compiles input before after answer
+    by-cases (yes long) = long-alike answer (omega (arith, length-take-le 4097 input (omega arith))) (omega arith) c
+    by-cases (no short) = subst (λ (t : List ℕ). Compiles t before after answer) (take-all 4097 input (omega arith)) c
 
 -- an image has at most 8,246 bytes
 image-short : {image : List ℕ} → WellFormed image → length image ≤ 8246
@@ -71,10 +71,10 @@ longer-alike short long word before after limit (Judge.refused n p) s l j =
 pub enough-of-an-image : (file word : List ℕ) {limit : ℕ} {before after : List ℕ} {result : ℕ}
     → Judges (take 8247 file) word limit before after result
     → Judges file word limit before after result
-enough-of-an-image file word {limit} {before} {after} {result} j = go (decLt 8247 (length file))
+enough-of-an-image file word {limit} {before} {after} {result} j = by-cases (decLt 8247 (length file))
   where
-    go : Dec (8247 < length file) → Judges file word limit before after result
-    go (yes long) =
+    by-cases : Dec (8247 < length file) → Judges file word limit before after result
+    by-cases (yes long) =
         record {
           answer = j .answer;
           right =
@@ -82,4 +82,4 @@ enough-of-an-image file word {limit} {before} {after} {result} j = go (decLt 824
               (omega (arith, length-take-le 8247 file (omega arith))) (omega arith) (j .right);
           number = j .number;
         }
-    go (no short) = subst (λ (i : List ℕ). Judges i word limit before after result) (take-all 8247 file (omega arith)) j
+    by-cases (no short) = subst (λ (i : List ℕ). Judges i word limit before after result) (take-all 8247 file (omega arith)) j

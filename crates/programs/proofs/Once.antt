@@ -50,11 +50,11 @@ pub answers-word-once : {image word digits before after after′ old line line�
     → AnswersWord image word digits before after′ old line′ r′
     → (after ≡ after′) × (line ≡ line′) × (r ≡ r′)
 answers-word-once {digits = digits} {before = before} {after = after} {after′ = after′} {old = old} {line = line} {line′ = line′} {r = r} {r′ = r′} a b =
-    go (limit-or-none digits)
+    by-cases (limit-or-none digits)
   where
-    go : ((limit : ℕ) × SaysLimit digits limit) ⊎ ((limit : ℕ) → ¬ SaysLimit digits limit) → (after ≡ after′) × (line ≡ line′) × (r ≡ r′)
-    go (inl (limit, says)) = answers-at-once (a .answered limit says) (b .answered limit says)
-    go (inr none) =
+    by-cases : ((limit : ℕ) × SaysLimit digits limit) ⊎ ((limit : ℕ) → ¬ SaysLimit digits limit) → (after ≡ after′) × (line ≡ line′) × (r ≡ r′)
+    by-cases (inl (limit, says)) = answers-at-once (a .answered limit says) (b .answered limit says)
+    by-cases (inr none) =
         let x = a .unsaid none in
         let y = b .unsaid none in
         (x .1 ∙ sym (y .1), x .2 ∙ sym (y .2), x .0 ∙ sym (y .0))

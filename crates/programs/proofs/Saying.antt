@@ -33,11 +33,11 @@ pub digit-low : (b : ℕ) → b < 48 → isDigit b ≡ false
 digit-low b low = simp (lt-leb 48 b low)
 
 pub digit-high : (b : ℕ) → 57 < b → isDigit b ≡ false
-digit-high b high = go (leb 48 b)
+digit-high b high = by-cases (leb 48 b)
   where
-    go : (t : Bool) → (t && leb b 57) ≡ false
-    go true = lt-leb b 57 high
-    go false = refl
+    by-cases : (t : Bool) → (t && leb b 57) ≡ false
+    by-cases true = lt-leb b 57 high
+    by-cases false = refl
 
 module _ (digits : List ℕ) (value i : ℕ) (half : Halfway digits value i) (more : i < length digits) where
   next-each : every isDigit digits ≡ (isDigit (getD digits i 0) && every isDigit (drop (suc i) digits))

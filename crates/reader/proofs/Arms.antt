@@ -22,14 +22,14 @@ passing test low (suc n) = elim (test low) [ true ↦ low ∷ passing test (suc 
 
 passing-passes : (test : ℕ → Bool) (low n : ℕ) → T (every test (passing test low n))
 passing-passes test low zero = tt
-passing-passes test low (suc n) = go (test low) refl (passing-passes test (suc low) n)
+passing-passes test low (suc n) = by-cases (test low) refl (passing-passes test (suc low) n)
   where
-    go : (b : Bool)
+    by-cases : (b : Bool)
         → test low ≡ b
         → T (every test (passing test (suc low) n))
         → T (every test (elim b [ true ↦ low ∷ passing test (suc low) n | false ↦ passing test (suc low) n ]))
-    go true e h = and-of (test low) (every test (passing test (suc low) n)) (subst T (sym e) tt) h
-    go false e h = h
+    by-cases true e h = and-of (test low) (every test (passing test (suc low) n)) (subst T (sym e) tt) h
+    by-cases false e h = h
 
 -- what is one of them passes
 pub left-passes : (test : ℕ → Bool) (low n k : ℕ) → OneOf (passing test low n) k → T (test k)

@@ -37,7 +37,7 @@ module _ {text : List ℕ} {from p q : ℕ} (d n : ℕ) {a : List ℕ} {c : Coun
       → n < 8
       → l ≡ record { states = c .states + 1; rows = c .rows + 2 }
       → ComesTo text (spot from (behindArms d n ∷ []) (totals a c)) (spot q (block d ∷ behindArms d (n + 1) ∷ []) (totals a l))
-  next-arm {l} least few more = go (ℕ-discrete n 1)
+  next-arm {l} least few more = by-cases (ℕ-discrete n 1)
     where
       finish : (x : Expected) (m : ℕ)
           → behindArms d n ≡ x
@@ -51,9 +51,9 @@ module _ {text : List ℕ} {from p q : ℕ} (d n : ℕ) {a : List ℕ} {c : Coun
           (ap (orAlso d) s ∙ sym (more-arms d (n + 1) (omega arith)))
           h
 
-      go : Dec (n ≡ 1) → ComesTo text (spot from (behindArms d n ∷ []) (totals a c)) (spot q (block d ∷ behindArms d (n + 1) ∷ []) (totals a l))
-      go (yes e) = finish (arms d 1) 2 (one-arm d n e) (omega arith) (moves f refl refl (counts-plus a more))
-      go (no h) = finish (orAlso d n) (suc n) (more-arms d n h) (omega arith) (moves f refl (lt-leb 8 n few) (counts-plus a more))
+      by-cases : Dec (n ≡ 1) → ComesTo text (spot from (behindArms d n ∷ []) (totals a c)) (spot q (block d ∷ behindArms d (n + 1) ∷ []) (totals a l))
+      by-cases (yes e) = finish (arms d 1) 2 (one-arm d n e) (omega arith) (moves f refl refl (counts-plus a more))
+      by-cases (no h) = finish (orAlso d n) (suc n) (more-arms d n h) (omega arith) (moves f refl (lt-leb 8 n few) (counts-plus a more))
 
   -- a ninth arm
   pub ninth-arm : {w y : Stack} {b : List ℕ}
@@ -75,7 +75,7 @@ pub last-arm : {text : List ℕ} {from q d n : ℕ} {a : List ℕ} {t : Totals} 
     → Misses text (totals a c) (arms d 1) l
     → LastArm l (Went q c) n r
     → Answers text (spot from (block d ∷ behindArms d n ∷ []) t) (statements d ∷ []) a r
-last-arm {text} {from} {q} {d} {n} {a} {t} {c} {arm} {r} h e f same no-also none-taken last = go (ℕ-discrete n 1)
+last-arm {text} {from} {q} {d} {n} {a} {t} {c} {arm} {r} h e f same no-also none-taken last = by-cases (ℕ-discrete n 1)
   where
     finish : (x : Expected) (u : Read)
         → behindArms d n ≡ x
@@ -89,13 +89,13 @@ last-arm {text} {from} {q} {d} {n} {a} {t} {c} {arm} {r} h e f same no-also none
         (sym v)
         g
 
-    go : Dec (n ≡ 1) → Answers text (spot from (block d ∷ behindArms d n ∷ []) t) (statements d ∷ []) a r
-    go (yes one) =
+    by-cases : Dec (n ≡ 1) → Answers text (spot from (block d ∷ behindArms d n ∷ []) t) (statements d ∷ []) a r
+    by-cases (yes one) =
         finish
         (arms d 1)
         _
         (one-arm d n one)
         (last .few one)
         (then (arms d 1 ∷ []) h e (refused (subst (λ (u : Token). FirstToken text q u) same f) refl none-taken))
-    go (no more) =
+    by-cases (no more) =
         finish (orAlso d n) _ (more-arms d n more) (last .enough more) (stay (orAlso d n ∷ []) h e (no-also-here f no-also))

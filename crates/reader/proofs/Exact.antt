@@ -58,11 +58,11 @@ module _ (text : List ℕ) {p q : ℕ} (some : p < q) (within : q ≤ length tex
 
 module _ (m : Fixed) (l : List ℕ) (e : spell m ≡ sign l) (t : Totals) (p : ℕ) where
   other-sign : (k : Class) → ¬ (tokenOf k ≡ sign l) → pick (choices t p (exact m)) k ≡ none
-  other-sign (mark n) h = go (sameToken (spell n) (spell m)) refl
+  other-sign (mark n) h = by-cases (sameToken (spell n) (spell m)) refl
     where
-      go : (b : Bool) → sameToken (spell n) (spell m) ≡ b → pick (choices t p (exact m)) (mark n) ≡ none
-      go true s = absurd (h (same-token (spell n) (spell m) (subst T (sym s) tt) ∙ e))
-      go false s = rw (s, pick)
+      by-cases : (b : Bool) → sameToken (spell n) (spell m) ≡ b → pick (choices t p (exact m)) (mark n) ≡ none
+      by-cases true s = absurd (h (same-token (spell n) (spell m) (subst T (sym s) tt) ∙ e))
+      by-cases false s = rw (s, pick)
   other-sign (Class.number n) h = refl
   other-sign (Class.letter b) h = refl
   other-sign (other u) h = refl

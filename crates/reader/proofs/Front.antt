@@ -87,17 +87,17 @@ unmarked : (rs : List Reserved) (l : List ℕ)
     → find (word l) (map (λ r. r .mark) rs) ≡ other (word l)
 unmarked [] l t h = refl
 unmarked (r ∷ rs) l t h =
-    go (sameToken (word l) (spell (r .mark))) refl (unmarked rs l (and-right (fits r) (every fits rs) t) h)
+    by-cases (sameToken (word l) (spell (r .mark))) refl (unmarked rs l (and-right (fits r) (every fits rs) t) h)
   where
-    go : (b : Bool)
+    by-cases : (b : Bool)
         → sameToken (word l) (spell (r .mark)) ≡ b
         → find (word l) (map (λ q. q .mark) rs) ≡ other (word l)
         → (elim b [ true ↦ mark (r .mark) | false ↦ find (word l) (map (λ q. q .mark) rs) ]) ≡ other (word l)
-    go true e g =
+    by-cases true e g =
         let here = same-token (word l) (spell (r .mark)) (subst T (sym e) tt) in
         let there = same-token (nameToken (name (r .reads))) (spell (r .mark)) (and-left (fits r) (every fits rs) t) in
         absurd (h (r .reads) (name-token (name (r .reads)) l (there ∙ sym here)))
-    go false e g = g
+    by-cases false e g = g
 
 named-class : (n : Name) (l : List ℕ) → IsNamed n l → classify (word l) ≡ named n l
 named-class (reserved b) l e = ap (λ (m : List ℕ). classify (word m)) e

@@ -49,11 +49,11 @@ sortTaken (onLetter r) = 2
 
 module _ {A : Type 0} where
   take-none : (c : Choice A) (k : Class) → ¬ (sort (tokenOf k) ≡ sortTaken c) → take c k ≡ none
-  take-none (on m r) (mark n) h = go (sameToken (spell n) (spell m)) refl
+  take-none (on m r) (mark n) h = by-cases (sameToken (spell n) (spell m)) refl
     where
-      go : (b : Bool) → sameToken (spell n) (spell m) ≡ b → _≡_ {A = Option (Move A)} (elim b [ true ↦ some r | false ↦ none ]) none
-      go true e = absurd (h (ap sort (same-token (spell n) (spell m) (subst T (sym e) tt))))
-      go false e = refl
+      by-cases : (b : Bool) → sameToken (spell n) (spell m) ≡ b → _≡_ {A = Option (Move A)} (elim b [ true ↦ some r | false ↦ none ]) none
+      by-cases true e = absurd (h (ap sort (same-token (spell n) (spell m) (subst T (sym e) tt))))
+      by-cases false e = refl
   take-none (on m r) (Class.number l) h = refl
   take-none (on m r) (Class.letter b) h = refl
   take-none (on m r) (other u) h = refl

@@ -39,15 +39,15 @@ pub no-sign-first : {text : List ℕ} {from : ℕ} {k : Token}
     → FirstToken text from k
     → OneOf (0 ∷ 1 ∷ 2 ∷ 4 ∷ 5 ∷ []) (tagOf token-type.the-type k)
     → NoSign text from
-no-sign-first {k = k} f e = record { token = k; first = f; none = go k e }
+no-sign-first {k = k} f e = record { token = k; first = f; none = by-cases k e }
   where
-    go : (k : Token) → OneOf (0 ∷ 1 ∷ 2 ∷ 4 ∷ 5 ∷ []) (tagOf token-type.the-type k) → isSign k ≡ false
-    go (Token.Word p q x) e = refl
-    go (Token.Number p q) e = refl
-    go (Token.Letter p q b) e = refl
-    go (Token.Sign p q x) e = absurd (miss (0 ∷ 1 ∷ 2 ∷ 4 ∷ 5 ∷ []) 3 tt e)
-    go (Token.End p) e = refl
-    go (Token.Broken p) e = refl
+    by-cases : (k : Token) → OneOf (0 ∷ 1 ∷ 2 ∷ 4 ∷ 5 ∷ []) (tagOf token-type.the-type k) → isSign k ≡ false
+    by-cases (Token.Word p q x) e = refl
+    by-cases (Token.Number p q) e = refl
+    by-cases (Token.Letter p q b) e = refl
+    by-cases (Token.Sign p q x) e = absurd (miss (0 ∷ 1 ∷ 2 ∷ 4 ∷ 5 ∷ []) 3 tt e)
+    by-cases (Token.End p) e = refl
+    by-cases (Token.Broken p) e = refl
 
 -- `&&` or `||`, and then an operand
 pub joins : {text : List ℕ} {from p q d : ℕ} {k : Token} {s : Sign} {a : List ℕ} {n l : Counts}

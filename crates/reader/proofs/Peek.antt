@@ -33,11 +33,11 @@ use Rattle.reader.proofs.Missed.{sort}
 
 -- a token that is not the mark is none of its class
 unlike-other : (m : Fixed) (k : Class) → ¬ (tokenOf k ≡ spell m) → T (unlike m k)
-unlike-other m (mark n) h = go (sameToken (spell n) (spell m)) refl
+unlike-other m (mark n) h = by-cases (sameToken (spell n) (spell m)) refl
   where
-    go : (b : Bool) → sameToken (spell n) (spell m) ≡ b → T (not b)
-    go true e = absurd (h (same-token (spell n) (spell m) (subst T (sym e) tt)))
-    go false e = tt
+    by-cases : (b : Bool) → sameToken (spell n) (spell m) ≡ b → T (not b)
+    by-cases true e = absurd (h (same-token (spell n) (spell m) (subst T (sym e) tt)))
+    by-cases false e = tt
 unlike-other m (Class.number l) h = tt
 unlike-other m (Class.letter b) h = tt
 unlike-other m (other u) h = tt

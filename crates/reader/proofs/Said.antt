@@ -200,21 +200,21 @@ not-letter (Token.Broken p) equal h = refl
 -- 0 is read, and any other number refused
 module _ (equal : Bool) (digits : List ℕ) (n : Numeral) where
   pub zero-read : outside 0 digits ≡ false → Found (Atom.Counter equal) (n .end) ≡ zeroRead equal digits n
-  zero-read h = go (inForm digits && leb (valueFrom 0 digits) 0) (not-false _ h)
+  zero-read h = by-cases (inForm digits && leb (valueFrom 0 digits) 0) (not-false _ h)
     where
-      go : (b : Bool)
+      by-cases : (b : Bool)
           → b ≡ true
           → Found (Atom.Counter equal) (n .end)
           ≡ elim b [ true ↦ Found (Atom.Counter equal) (n .end) | false ↦ Refused (record { number = 7; place = n .place }) ]
-      go true e = refl
-      go false e = absurd (true≢false (sym e))
+      by-cases true e = refl
+      by-cases false e = absurd (true≢false (sym e))
 
   pub number-refused : outside 0 digits ≡ true → Refused (record { number = 7; place = n .place }) ≡ zeroRead equal digits n
-  number-refused h = go (inForm digits && leb (valueFrom 0 digits) 0) (not-true _ h)
+  number-refused h = by-cases (inForm digits && leb (valueFrom 0 digits) 0) (not-true _ h)
     where
-      go : (b : Bool)
+      by-cases : (b : Bool)
           → b ≡ false
           → Refused (record { number = 7; place = n .place })
           ≡ elim b [ true ↦ Found (Atom.Counter equal) (n .end) | false ↦ Refused (record { number = 7; place = n .place }) ]
-      go true e = absurd (true≢false e)
-      go false e = refl
+      by-cases true e = absurd (true≢false e)
+      by-cases false e = refl

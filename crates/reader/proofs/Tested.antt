@@ -239,18 +239,18 @@ pub nor-sign : {text : List ℕ} {from : ℕ} {k : Token}
     → FirstToken text from k
     → OneOf (1 ∷ 2 ∷ 3 ∷ 4 ∷ 5 ∷ []) (tagOf token-type.the-type k)
     → OneOf (1 ∷ 2 ∷ 4 ∷ 5 ∷ []) (tagOf token-type.the-type k)
-nor-sign {k = k} h f e = go k (ap isSign (first-once f (h .first)) ∙ h .none) e
+nor-sign {k = k} h f e = by-cases k (ap isSign (first-once f (h .first)) ∙ h .none) e
   where
-    go : (k : Token)
+    by-cases : (k : Token)
         → isSign k ≡ false
         → OneOf (1 ∷ 2 ∷ 3 ∷ 4 ∷ 5 ∷ []) (tagOf token-type.the-type k)
         → OneOf (1 ∷ 2 ∷ 4 ∷ 5 ∷ []) (tagOf token-type.the-type k)
-    go (Token.Word p q x) h e = absurd (miss (1 ∷ 2 ∷ 3 ∷ 4 ∷ 5 ∷ []) 0 tt e)
-    go (Token.Number p q) h e = hit (1 ∷ 2 ∷ 4 ∷ 5 ∷ []) 1 tt
-    go (Token.Letter p q b) h e = hit (1 ∷ 2 ∷ 4 ∷ 5 ∷ []) 2 tt
-    go (Token.Sign p q x) h e = absurd (true≢false h)
-    go (Token.End p) h e = hit (1 ∷ 2 ∷ 4 ∷ 5 ∷ []) 4 tt
-    go (Token.Broken p) h e = hit (1 ∷ 2 ∷ 4 ∷ 5 ∷ []) 5 tt
+    by-cases (Token.Word p q x) h e = absurd (miss (1 ∷ 2 ∷ 3 ∷ 4 ∷ 5 ∷ []) 0 tt e)
+    by-cases (Token.Number p q) h e = hit (1 ∷ 2 ∷ 4 ∷ 5 ∷ []) 1 tt
+    by-cases (Token.Letter p q b) h e = hit (1 ∷ 2 ∷ 4 ∷ 5 ∷ []) 2 tt
+    by-cases (Token.Sign p q x) h e = absurd (true≢false h)
+    by-cases (Token.End p) h e = hit (1 ∷ 2 ∷ 4 ∷ 5 ∷ []) 4 tt
+    by-cases (Token.Broken p) h e = hit (1 ∷ 2 ∷ 4 ∷ 5 ∷ []) 5 tt
 
 module _ (t : Totals) (st : Stack) (e : Ending) where
   sought-runs : {ts us : Ts} {x : Tree.SymbolName}
@@ -293,18 +293,18 @@ strayPlace (Stray.At p) = p
 
 -- of an atom that is found, a letter outside the alphabet is the only fault left
 not-stray : (b p : ℕ) (a : List ℕ) → elim (isIn b a) [ true ↦ Stray.Nowhere | false ↦ Stray.At p ] ≡ Stray.Nowhere → isIn b a ≡ true
-not-stray b p a e = go (isIn b a) e
+not-stray b p a e = by-cases (isIn b a) e
   where
-    go : (t : Bool) → elim t [ true ↦ Stray.Nowhere | false ↦ Stray.At p ] ≡ Stray.Nowhere → t ≡ true
-    go true h = refl
-    go false h = absurd (let no : _≡_ {A = ℕ} 1 0 = ap strays h in omega arith)
+    by-cases : (t : Bool) → elim t [ true ↦ Stray.Nowhere | false ↦ Stray.At p ] ≡ Stray.Nowhere → t ≡ true
+    by-cases true h = refl
+    by-cases false h = absurd (let no : _≡_ {A = ℕ} 1 0 = ap strays h in omega arith)
 
 is-stray : (b p q : ℕ) (a : List ℕ) → elim (isIn b a) [ true ↦ Stray.Nowhere | false ↦ Stray.At p ] ≡ Stray.At q → (isIn b a ≡ false) × (p ≡ q)
-is-stray b p q a e = go (isIn b a) e
+is-stray b p q a e = by-cases (isIn b a) e
   where
-    go : (t : Bool) → elim t [ true ↦ Stray.Nowhere | false ↦ Stray.At p ] ≡ Stray.At q → (t ≡ false) × (p ≡ q)
-    go true h = absurd (let no : _≡_ {A = ℕ} 0 1 = ap strays h in omega arith)
-    go false h = (refl, ap strayPlace h)
+    by-cases : (t : Bool) → elim t [ true ↦ Stray.Nowhere | false ↦ Stray.At p ] ≡ Stray.At q → (t ≡ false) × (p ≡ q)
+    by-cases true h = absurd (let no : _≡_ {A = ℕ} 0 1 = ap strays h in omega arith)
+    by-cases false h = (refl, ap strayPlace h)
 
 -- a mark is no letter, and a letter of the alphabet is not outside it
 pub mark-strays : (a : List ℕ) (equal : Bool) (x : Sought) → OneOf (1 ∷ 2 ∷ []) (tagOf symbol-type.the-type x) → Stray.Nowhere ≡ strayOf a (Atom.Read equal x)

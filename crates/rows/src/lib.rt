@@ -7,7 +7,6 @@ use table::Row;
 use table::form;
 use table::source::Range;
 use table::source::Source;
-
 ghost use mathlib.Core.Path.{_≡_};
 ghost use Prim.Native.Nat.{_≤_};
 ghost use lib.ListN.{length};

@@ -48,22 +48,22 @@ eat-grows x y [] {n} r e =
     (λ (z : State). Grows n x z)
     (Option·some-injective x y e)
     (record { new = []; seen = sym (append-nil (x .far .seen)); rise = over })
-eat-grows x y ((u at p) ∷ ts) {n} (From.then h r) e = go (step x (u at p)) (view x u p) (λ z. eat-grows z y ts r) e
+eat-grows x y ((u at p) ∷ ts) {n} (From.then h r) e = by-cases (step x (u at p)) (view x u p) (λ z. eat-grows z y ts r) e
   where
-    go : (o : Option State)
+    by-cases : (o : Option State)
         → View x u p o
         → ((z : State) → eat z ts ≡ some y → Grows (suc p) z y)
         → (o >>= λ z. eat z ts) ≡ some y
         → Grows n x y
-    go none v rest e = absurd (Option·none-ne-some y e)
-    go (some z) (passes g s) rest e =
+    by-cases none v rest e = absurd (Option·none-ne-some y e)
+    by-cases (some z) (passes g s) rest e =
         let a = rest z e in
         record {
           new = a .new;
           seen = a .seen ∙ ap (λ (l : List Fault). l ++ a .new) g;
           rise = rise-before (omega arith) (a .rise);
         }
-    go (some z) (breaks m g s) rest e =
+    by-cases (some z) (breaks m g s) rest e =
         let a = rest z e in
         record {
           new = fault m p ∷ a .new;

@@ -80,14 +80,14 @@ eat-then ts h us = eat-append begin ts us ∙ ap (λ (o : Option State). o >>= �
 
 -- tokens with which a program goes on are taken
 pub goes-taken : {ts : Ts} (c : GoesOn ts) → (y : State) × (eat begin ts ≡ some y)
-goes-taken {ts} c = go (eat begin ts) refl (sym (eat-append begin ts (c .after)) ∙ eats-program (c .derived))
+goes-taken {ts} c = by-cases (eat begin ts) refl (sym (eat-append begin ts (c .after)) ∙ eats-program (c .derived))
   where
-    go : (o : Option State)
+    by-cases : (o : Option State)
         → eat begin ts ≡ o
         → (o >>= λ y. eat y (c .after)) ≡ some (final (c .program))
         → (y : State) × (eat begin ts ≡ some y)
-    go none e h = absurd (Option·none-ne-some (final (c .program)) h)
-    go (some y) e h = (y, e)
+    by-cases none e h = absurd (Option·none-ne-some (final (c .program)) h)
+    by-cases (some y) e h = (y, e)
 
 -- behind them the machine sees the rest of the program's faults
 pub goes-adds : {ts : Ts} (c : GoesOn ts) (z : State) → eat begin ts ≡ some z → Adds z (final (c .program)) (c .after)
@@ -181,29 +181,29 @@ refused-fault {text} h = trace-fault (scan-right text) (text-trace text h)
 -- behind tokens passed, a token with which no program goes on, and one that breaks a limit
 module _ {ts : Ts} (x : Passed ts) (u : Token) (p : ℕ) (us : Ts) (e : Ending) where
   not-here : Rising (ts ++ ((u at p) ∷ [])) → ¬ GoesOn (ts ++ ((u at p) ∷ [])) → runs (x .state) ((u at p) ∷ us) e ≡ refused 4 p
-  not-here r never = go (step (x .state) (u at p)) (view (x .state) u p) (eat-one x (u at p))
+  not-here r never = by-cases (step (x .state) (u at p)) (view (x .state) u p) (eat-one x (u at p))
     where
-      go : (o : Option State)
+      by-cases : (o : Option State)
           → View (x .state) u p o
           → eat begin (ts ++ ((u at p) ∷ [])) ≡ o
           → runs (x .state) ((u at p) ∷ us) e ≡ refused 4 p
-      go none (stops s) h = s us e
-      go (some z) s h = absurd (never (taken-goes z r h))
+      by-cases none (stops s) h = s us e
+      by-cases (some z) s h = absurd (never (taken-goes z r h))
 
   over-limit : {n : ℕ} → Breaks (ts ++ ((u at p) ∷ [])) (fault n p) → runs (x .state) ((u at p) ∷ us) e ≡ refused n p
-  over-limit {n} b = go (step (x .state) (u at p)) (view (x .state) u p) (eat-one x (u at p))
+  over-limit {n} b = by-cases (step (x .state) (u at p)) (view (x .state) u p) (eat-one x (u at p))
     where
-      go : (o : Option State)
+      by-cases : (o : Option State)
           → View (x .state) u p o
           → eat begin (ts ++ ((u at p) ∷ [])) ≡ o
           → runs (x .state) ((u at p) ∷ us) e ≡ refused n p
-      go none s h = let (z, k) = goes-taken (b .goesOn) in absurd (Option·none-ne-some z (sym h ∙ k))
-      go (some y) (passes f s) h =
+      by-cases none s h = let (z, k) = goes-taken (b .goesOn) in absurd (Option·none-ne-some z (sym h ∙ k))
+      by-cases (some y) (passes f s) h =
           let a = goes-adds (b .goesOn) y h in
           let same : fault n p ∷ b .others ≡ a .new = sym (b .first) ∙ grown a (f ∙ x .unseen) in
           let (v, k) = a .placed (fault n p) (subst (List·Memᴰ (fault n p)) same (List·Memᴰ·head refl)) in
           absurd (not-within (b .goesOn) (Memᴰ·append-right ts (List·Memᴰ·head refl)) k)
-      go (some y) (breaks m f s) h =
+      by-cases (some y) (breaks m f s) h =
           let a = goes-adds (b .goesOn) y h in
           let seen : y .far .seen ≡ fault m p ∷ [] = f ∙ ap (λ (l : List Fault). l ++ (fault m p ∷ [])) (x .unseen) in
           let same : fault n p ∷ b .others ≡ fault m p ∷ a .new = sym (b .first) ∙ grown a seen in
@@ -212,11 +212,11 @@ module _ {ts : Ts} (x : Passed ts) (u : Token) (p : ℕ) (us : Ts) (e : Ending) 
 early-end : {ts : Ts} (x : Passed ts) (p : ℕ)
     → ((q : Program) → ¬ IsProgram ts q)
     → atEnd (x .state .stack) (x .state .far .totals) (ends p) ≡ refused 4 p
-early-end {ts} x p never = go (x .state .stack) refl
+early-end {ts} x p never = by-cases (x .state .stack) refl
   where
-    go : (st : Stack) → x .state .stack ≡ st → atEnd st (x .state .far .totals) (ends p) ≡ refused 4 p
-    go [] h = let (q, d) = eaten-program ts (subst Ended (sym (x .eaten)) h) in absurd (never q d)
-    go (y ∷ st) h = refl
+    by-cases : (st : Stack) → x .state .stack ≡ st → atEnd st (x .state .far .totals) (ends p) ≡ refused 4 p
+    by-cases [] h = let (q, d) = eaten-program ts (subst Ended (sym (x .eaten)) h) in absurd (never q d)
+    by-cases (y ∷ st) h = refl
 
 -- a first fault of a text is what the machine refuses
 pub fault-refused : {text : List ℕ} {n p : ℕ} → FirstFault text n p → outcome text ≡ refused n p
@@ -266,11 +266,11 @@ sound ts e h = trace-taken (subst (Trace ts e) h (trace ts e))
 
 built-ended : (o : Option State) {x : Program} → built o ≡ some x → Ended o
 built-ended none {x} h = absurd (Option·none-ne-some x h)
-built-ended (some y) {x} h = go (y .stack) (y .build) h
+built-ended (some y) {x} h = by-cases (y .stack) (y .build) h
   where
-    go : (st : Stack) (k : Values st → Program) → builtOn st k ≡ some x → st ≡ []
-    go [] k h = refl
-    go (z ∷ st) k h = absurd (Option·none-ne-some x h)
+    by-cases : (st : Stack) (k : Values st → Program) → builtOn st k ≡ some x → st ≡ []
+    by-cases [] k h = refl
+    by-cases (z ∷ st) k h = absurd (Option·none-ne-some x h)
 
 -- the program that the machine makes of tokens is derived from them: by computing, so are samples
 pub built-program : (ts : Ts) {x : Program} → built (eat begin ts) ≡ some x → IsProgram ts x
@@ -331,8 +331,8 @@ reads-once {y = y} r s =
 
 -- every text is a program without faults or has a first fault
 pub reads-or-fault : (text : List ℕ) → ((x : Program) × Reads text x) ⊎ ((n : ℕ) × (p : ℕ) × FirstFault text n p)
-reads-or-fault text = go (outcome text) refl
+reads-or-fault text = by-cases (outcome text) refl
   where
-    go : (o : Outcome) → outcome text ≡ o → ((x : Program) × Reads text x) ⊎ ((n : ℕ) × (p : ℕ) × FirstFault text n p)
-    go (taken a b) h = let (x, r, _, _) = taken-reads h in inl (x, r)
-    go (refused n p) h = inr (n, p, refused-fault h)
+    by-cases : (o : Outcome) → outcome text ≡ o → ((x : Program) × Reads text x) ⊎ ((n : ℕ) × (p : ℕ) × FirstFault text n p)
+    by-cases (taken a b) h = let (x, r, _, _) = taken-reads h in inl (x, r)
+    by-cases (refused n p) h = inr (n, p, refused-fault h)

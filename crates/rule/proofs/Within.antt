@@ -133,11 +133,11 @@ and-right false b e = absurd (true≢false (sym e))
 pub isIn-mem : (b : ℕ) (l : List ℕ) → isIn b l ≡ true → List·Memᴰ b l
 unfolding isIn
 isIn-mem b [] e = absurd (true≢false (sym e))
-isIn-mem b (x ∷ xs) e = go (eqb b x) refl (isIn-mem b xs) e
+isIn-mem b (x ∷ xs) e = by-cases (eqb b x) refl (isIn-mem b xs) e
   where
-    go : (t : Bool) → eqb b x ≡ t → (isIn b xs ≡ true → List·Memᴰ b xs) → (t || isIn b xs) ≡ true → List·Memᴰ b (x ∷ xs)
-    go true q found e = List·Memᴰ·head (eqb-true b x q)
-    go false q found e = List·Memᴰ·tail (found e)
+    by-cases : (t : Bool) → eqb b x ≡ t → (isIn b xs ≡ true → List·Memᴰ b xs) → (t || isIn b xs) ≡ true → List·Memᴰ b (x ∷ xs)
+    by-cases true q found e = List·Memᴰ·head (eqb-true b x q)
+    by-cases false q found e = List·Memᴰ·tail (found e)
 
 -- a letter that is there is found
 pub mem-isIn : (b : ℕ) (l : List ℕ) → List·Memᴰ b l → isIn b l ≡ true

@@ -77,11 +77,11 @@ pub first-split : (n p : ℕ) (rs qs : List Reason) → First (rs ++ qs) n p →
 unfolding First
 first-split n p [] qs first = inr (tt, first)
 first-split n p (r ∷ rs) qs (inl a) = inl (inl a)
-first-split n p (r ∷ rs) qs (inr a) = go (first-split n p rs qs (a .1))
+first-split n p (r ∷ rs) qs (inr a) = by-cases (first-split n p rs qs (a .1))
   where
-    go : First rs n p ⊎ (None rs × First qs n p) → First (r ∷ rs) n p ⊎ (None (r ∷ rs) × First qs n p)
-    go (inl front) = inl (inr (a .0, front))
-    go (inr behind) = inr ((a .0, behind .0), behind .1)
+    by-cases : First rs n p ⊎ (None rs × First qs n p) → First (r ∷ rs) n p ⊎ (None (r ∷ rs) × First qs n p)
+    by-cases (inl front) = inl (inr (a .0, front))
+    by-cases (inr behind) = inr ((a .0, behind .0), behind .1)
 
 -- some reason of the list gives this number and place
 abbrev pub Some : List Reason → ℕ → ℕ → Type 0

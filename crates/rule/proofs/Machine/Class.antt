@@ -14,11 +14,11 @@ use Rattle.rule.specs.Inside.Class.{Fixed, alphabet, decrOnZero, isTrue,
 
 find-token : (t : Token) (ms : List Fixed) → tokenOf (find t ms) ≡ t
 find-token t [] = refl
-find-token t (m ∷ ms) = go (sameToken t (spell m)) refl (find-token t ms)
+find-token t (m ∷ ms) = by-cases (sameToken t (spell m)) refl (find-token t ms)
   where
-    go : (b : Bool) → sameToken t (spell m) ≡ b → tokenOf (find t ms) ≡ t → tokenOf (elim b [ true ↦ mark m | false ↦ find t ms ]) ≡ t
-    go true e h = sym (same-token t (spell m) (subst T (sym e) tt))
-    go false e h = h
+    by-cases : (b : Bool) → sameToken t (spell m) ≡ b → tokenOf (find t ms) ≡ t → tokenOf (elim b [ true ↦ mark m | false ↦ find t ms ]) ≡ t
+    by-cases true e h = sym (same-token t (spell m) (subst T (sym e) tt))
+    by-cases false e h = h
 
 -- a token's class says which token it is
 pub token-of-class : (t : Token) → tokenOf (classify t) ≡ t

@@ -28,11 +28,11 @@ digit-at (d ∷ l) zero t h = and-left (isDigit d) (every isDigit l) t
 digit-at (d ∷ l) (suc i) t h = digit-at l i (and-right (isDigit d) (every isDigit l) t) (omega arith)
 
 not-leb : (a b : ℕ) → ltb b a ≡ not (leb a b)
-not-leb a b = go (decLt b a)
+not-leb a b = by-cases (decLt b a)
   where
-    go : Dec (b < a) → ltb b a ≡ not (leb a b)
-    go (yes h) = lt-ltb b a h ∙ sym (ap not (lt-leb a b h))
-    go (no h) = le-ltb b a (omega arith) ∙ sym (ap not (le-leb a b (omega arith)))
+    by-cases : Dec (b < a) → ltb b a ≡ not (leb a b)
+    by-cases (yes h) = lt-ltb b a h ∙ sym (ap not (lt-leb a b h))
+    by-cases (no h) = le-ltb b a (omega arith) ∙ sym (ap not (le-leb a b (omega arith)))
 
 module _ (g : ℕ) where
   -- one digit

@@ -48,11 +48,11 @@ notFirst m [] = true
 notFirst m ((u at p) ∷ us) = unlike m (classify u)
 
 take-unlike : {A : Type 0} (m : Fixed) (r : Move A) (k : Class) → T (unlike m k) → take (on m r) k ≡ none
-take-unlike {A} m r (mark k) h = go (sameToken (spell k) (spell m)) h
+take-unlike {A} m r (mark k) h = by-cases (sameToken (spell k) (spell m)) h
   where
-    go : (b : Bool) → T (not b) → _≡_ {A = Option (Move A)} (elim b [ true ↦ some r | false ↦ none ]) none
-    go true h = absurd h
-    go false h = refl
+    by-cases : (b : Bool) → T (not b) → _≡_ {A = Option (Move A)} (elim b [ true ↦ some r | false ↦ none ]) none
+    by-cases true h = absurd h
+    by-cases false h = refl
 take-unlike m r (number n) h = refl
 take-unlike m r (letter b) h = refl
 take-unlike m r (other u) h = refl
@@ -66,11 +66,11 @@ module _ {A B : Type 0} (f : A → B) where
   turned o = o >>= λ m. some (along f m)
 
   take-along : (r : Choice A) (k : Class) → take (alongChoice f r) k ≡ turned (take r k)
-  take-along (on m r) (mark k) = go (sameToken (spell k) (spell m))
+  take-along (on m r) (mark k) = by-cases (sameToken (spell k) (spell m))
     where
-      go : (b : Bool) → elim b [ true ↦ some (along f r) | false ↦ none ] ≡ turned (elim b [ true ↦ some r | false ↦ none ])
-      go true = refl
-      go false = refl
+      by-cases : (b : Bool) → elim b [ true ↦ some (along f r) | false ↦ none ] ≡ turned (elim b [ true ↦ some r | false ↦ none ])
+      by-cases true = refl
+      by-cases false = refl
   take-along (on m r) (number n) = refl
   take-along (on m r) (letter b) = refl
   take-along (on m r) (other u) = refl
@@ -86,13 +86,13 @@ module _ {A B : Type 0} (f : A → B) where
   pick-along : (rs : List (Choice A)) (k : Class) → pick (map (alongChoice f) rs) k ≡ turned (pick rs k)
   pick-along [] k = refl
   pick-along (r ∷ rs) k =
-      ap (λ (o : Option (Move B)). firstOf o (pick (map (alongChoice f) rs) k)) (take-along r k) ∙ go (take r k) (pick-along rs k)
+      ap (λ (o : Option (Move B)). firstOf o (pick (map (alongChoice f) rs) k)) (take-along r k) ∙ by-cases (take r k) (pick-along rs k)
     where
-      go : (o : Option (Move A))
+      by-cases : (o : Option (Move A))
           → pick (map (alongChoice f) rs) k ≡ turned (pick rs k)
           → firstOf (turned o) (pick (map (alongChoice f) rs) k) ≡ turned (firstOf o (pick rs k))
-      go none h = h
-      go (some m) h = refl
+      by-cases none h = h
+      by-cases (some m) h = refl
 
 -- a symbol with the choices of another, each turned so, and one more in front
 module _ (x y : Expected) (f : Value y → Value x) (m : Fixed)
@@ -110,11 +110,11 @@ module _ (x y : Expected) (f : Value y → Value x) (m : Fixed)
       → move x t (u at p) ≡ turned f o
       → run (x ∷ st) t ((u at p) ∷ ts) e ≡ run (y ∷ st) t ((u at p) ∷ ts) e
   step-alike st t u p ts e none h g = run-stops x t u p g st ts e ∙ sym (run-stops y t u p h st ts e)
-  step-alike st t u p ts e (some z) h g = go (z .breaks) refl
+  step-alike st t u p ts e (some z) h g = by-cases (z .breaks) refl
     where
-      go : (b : Bool) → z .breaks ≡ b → run (x ∷ st) t ((u at p) ∷ ts) e ≡ run (y ∷ st) t ((u at p) ∷ ts) e
-      go true b = run-breaks x t u p (along f z) g b st ts e ∙ sym (run-breaks y t u p z h b st ts e)
-      go false b = run-passes x t u p (along f z) g b st ts e ∙ sym (run-passes y t u p z h b st ts e)
+      by-cases : (b : Bool) → z .breaks ≡ b → run (x ∷ st) t ((u at p) ∷ ts) e ≡ run (y ∷ st) t ((u at p) ∷ ts) e
+      by-cases true b = run-breaks x t u p (along f z) g b st ts e ∙ sym (run-breaks y t u p z h b st ts e)
+      by-cases false b = run-passes x t u p (along f z) g b st ts e ∙ sym (run-passes y t u p z h b st ts e)
 
   run-alike : (st : Stack) (t : Totals) (ts : Ts) (e : Ending) → T (notFirst m ts) → run (x ∷ st) t ts e ≡ run (y ∷ st) t ts e
   unfolding run
@@ -130,13 +130,13 @@ module _ (x y : Expected) (f : Value y → Value x) (m : Fixed)
       ap
       (λ (o : Option (Move (Value x))). (o >>= λ z. some (follow x st a k p z)) >>= λ s. eat s ts)
       (move-alike (a .totals) u p h)
-      ∙ go (move y (a .totals) (u at p))
+      ∙ by-cases (move y (a .totals) (u at p))
     where
-      go : (o : Option (Move (Value y)))
+      by-cases : (o : Option (Move (Value y)))
           → ((turned f o >>= λ z. some (follow x st a k p z)) >>= λ s. eat s ts)
           ≡ ((o >>= λ z. some (follow y st a (λ (v, vs). k (f v, vs)) p z)) >>= λ s. eat s ts)
-      go none = refl
-      go (some z) = refl
+      by-cases none = refl
+      by-cases (some z) = refl
 
 -- where no `else` comes first, statements are expected
 pub run-no-else : (d : ℕ) (st : Stack) (t : Totals) (ts : Ts) (e : Ending) → T (notFirst Fixed.else ts) → run (orElse d ∷ st) t ts e ≡ run (statements d ∷ st) t ts e

@@ -357,15 +357,15 @@ eat-means [] [] a k h = (tt, over)
 eat-means [] (x ∷ st) a k h = absurd (cons≢nil h)
 eat-means ((u at p) ∷ ts) [] a k h = absurd h
 eat-means ((u at p) ∷ ts) (x ∷ st) a k h =
-    go (move x (a .totals) (u at p)) (move-means x (a .totals) u p) (λ st b l. eat-means ts st b l) h
+    by-cases (move x (a .totals) (u at p)) (move-means x (a .totals) u p) (λ st b l. eat-means ts st b l) h
   where
-    go : (o : Option (Move (Value x)))
+    by-cases : (o : Option (Move (Value x)))
         → KeepsIf (Means x) u p o
         → ((st : Stack) (b : Far) (l : Values st → Program) → Ended (eat (state st b l) ts) → (vs : Values st) × MeansAll st ts vs)
         → Ended ((o >>= λ m. some (follow x st a k p m)) >>= λ y. eat y ts)
         → (vs : Values (x ∷ st)) × MeansAll (x ∷ st) ((u at p) ∷ ts) vs
-    go none m rest h = absurd h
-    go (some z) m rest h =
+    by-cases none m rest h = absurd h
+    by-cases (some z) m rest h =
         let (vs, r) = rest (z .push ++ st) _ _ h in
         (z .makes st vs, m st ts vs r)
 

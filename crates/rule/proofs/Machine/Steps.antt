@@ -140,13 +140,13 @@ view x u p = view-on (x .stack) (x .far) (x .build) u p
 pub eat-append : (x : State) (ts us : Ts) → eat x (ts ++ us) ≡ (eat x ts >>= λ y. eat y us)
 unfolding eat
 eat-append x [] us = refl
-eat-append x (t ∷ ts) us = go (step x t) (λ y. eat-append y ts us)
+eat-append x (t ∷ ts) us = by-cases (step x t) (λ y. eat-append y ts us)
   where
-    go : (o : Option State)
+    by-cases : (o : Option State)
         → ((y : State) → eat y (ts ++ us) ≡ (eat y ts >>= λ z. eat z us))
         → (o >>= λ y. eat y (ts ++ us)) ≡ ((o >>= λ y. eat y ts) >>= λ z. eat z us)
-    go none h = refl
-    go (some y) h = h y
+    by-cases none h = refl
+    by-cases (some y) h = h y
 
 -- from one state to another these tokens lead past new faults, each at the place of one of them
 pub record Adds (x y : State) (ts : Ts) : Type 0 where
@@ -181,17 +181,17 @@ adds-first {x} {y} {z} {u} {p} {ts} fs h here a =
 pub eat-adds : (x y : State) (ts : Ts) → eat x ts ≡ some y → Adds x y ts
 unfolding eat
 eat-adds x y [] e = subst (λ (z : State). Adds x z []) (Option·some-injective x y e) (adds-none x)
-eat-adds x y ((u at p) ∷ ts) e = go (step x (u at p)) (view x u p) (λ z. eat-adds z y ts) e
+eat-adds x y ((u at p) ∷ ts) e = by-cases (step x (u at p)) (view x u p) (λ z. eat-adds z y ts) e
   where
-    go : (o : Option State)
+    by-cases : (o : Option State)
         → View x u p o
         → ((z : State) → eat z ts ≡ some y → Adds z y ts)
         → (o >>= λ z. eat z ts) ≡ some y
         → Adds x y ((u at p) ∷ ts)
-    go none v rest e = absurd (Option·none-ne-some y e)
-    go (some z) (passes h r) rest e =
+    by-cases none v rest e = absurd (Option·none-ne-some y e)
+    by-cases (some z) (passes h r) rest e =
         adds-first [] (h ∙ sym (append-nil (x .far .seen))) (λ f m. absurd (List·Memᴰ·not-nil m)) (rest z e)
-    go (some z) (breaks n h r) rest e =
+    by-cases (some z) (breaks n h r) rest e =
         adds-first (fault n p ∷ []) h (λ f m. ap (λ (g : Fault). g .place) (List·Memᴰ·eq-of-singleton m)) (rest z e)
 
 some-more : {A : Type 0} (l m : List A) (a : A) → ((l ++ (a ∷ [])) ++ m) ≡ [] → ⊥
@@ -202,15 +202,15 @@ some-more (x ∷ l) m a e = cons≢nil e
 pub eat-runs : (x y : State) (ts us : Ts) (e : Ending) → eat x ts ≡ some y → y .far .seen ≡ [] → runs x (ts ++ us) e ≡ runs y us e
 unfolding eat
 eat-runs x y [] us f e h = ap (λ (z : State). runs z us f) (Option·some-injective x y e)
-eat-runs x y ((u at p) ∷ ts) us f e h = go (step x (u at p)) (view x u p) (λ z g. eat-runs z y ts us f g h) e
+eat-runs x y ((u at p) ∷ ts) us f e h = by-cases (step x (u at p)) (view x u p) (λ z g. eat-runs z y ts us f g h) e
   where
-    go : (o : Option State)
+    by-cases : (o : Option State)
         → View x u p o
         → ((z : State) → eat z ts ≡ some y → runs z (ts ++ us) f ≡ runs y us f)
         → (o >>= λ z. eat z ts) ≡ some y
         → runs x ((u at p) ∷ (ts ++ us)) f ≡ runs y us f
-    go none v rest e = absurd (Option·none-ne-some y e)
-    go (some z) (passes g r) rest e = r (ts ++ us) f ∙ rest z e
-    go (some z) (breaks n g r) rest e =
+    by-cases none v rest e = absurd (Option·none-ne-some y e)
+    by-cases (some z) (passes g r) rest e = r (ts ++ us) f ∙ rest z e
+    by-cases (some z) (breaks n g r) rest e =
         let a : Adds z y ts = eat-adds z y ts e in
         absurd (some-more (x .far .seen) (a .new) (fault n p) (sym (grown a g) ∙ h))

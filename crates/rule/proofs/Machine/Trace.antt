@@ -73,25 +73,25 @@ passed-end {ts} x e = ap (λ (l : Ts). runs begin l e) (sym (append-nil ts)) ∙
 end-trace : {ts : Ts} (x : Passed ts) (e : Ending) → Trace ts e (runs (x .state) [] e)
 unfolding run
 end-trace x (broken p) = torn x
-end-trace {ts} x (ends p) = go (x .state .stack) refl
+end-trace {ts} x (ends p) = by-cases (x .state .stack) refl
   where
-    go : (st : Stack) → x .state .stack ≡ st → Trace ts (ends p) (atEnd st (x .state .far .totals) (ends p))
-    go [] h = whole x h
-    go (y ∷ st) h = early x (λ g. cons≢nil (sym h ∙ g))
+    by-cases : (st : Stack) → x .state .stack ≡ st → Trace ts (ends p) (atEnd st (x .state .far .totals) (ends p))
+    by-cases [] h = whole x h
+    by-cases (y ∷ st) h = early x (λ g. cons≢nil (sym h ∙ g))
 
 trace-from : {ts : Ts} (x : Passed ts) (us : Ts) (e : Ending) → Trace (ts ++ us) e (runs (x .state) us e)
 trace-from {ts} x [] e = rw (append-nil ts) (end-trace x e)
-trace-from {ts} x ((u at p) ∷ us) e = go (step (x .state) (u at p)) (view (x .state) u p) (eat-one x (u at p)) (λ x′. trace-from x′ us e)
+trace-from {ts} x ((u at p) ∷ us) e = by-cases (step (x .state) (u at p)) (view (x .state) u p) (eat-one x (u at p)) (λ x′. trace-from x′ us e)
   where
-    go : (o : Option State)
+    by-cases : (o : Option State)
         → View (x .state) u p o
         → eat begin (ts ++ ((u at p) ∷ [])) ≡ o
         → ((x′ : Passed (ts ++ ((u at p) ∷ []))) → Trace ((ts ++ ((u at p) ∷ [])) ++ us) e (runs (x′ .state) us e))
         → Trace (ts ++ ((u at p) ∷ us)) e (runs (x .state) ((u at p) ∷ us) e)
-    go none (stops r) h rest = rw (r us e) (stopped ts us u x h)
-    go (some z) (breaks n g r) h rest =
+    by-cases none (stops r) h rest = rw (r us e) (stopped ts us u x h)
+    by-cases (some z) (breaks n g r) h rest =
         rw (r us e) (limit ts us u z x h (g ∙ ap (λ (l : List Fault). l ++ (fault n p ∷ [])) (x .unseen)))
-    go (some z) (passes g r) h rest =
+    by-cases (some z) (passes g r) h rest =
         rw (r us e) (rw append-assoc at (rest (record { state = z; eaten = h; unseen = g ∙ x .unseen })))
 
 -- every run ends in one of these ways
