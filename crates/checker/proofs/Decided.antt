@@ -14,10 +14,11 @@ use Rattle.table.specs.Form.{lettersPlace, eitherCounter, toRight, mostChange, 
 use Rattle.table.specs.Table.{Row, Table, Accepting}
 use Rattle.table.specs.WellFormed.{SymbolCode, RowInRange, InRange, IsImage}
 use Rattle.table.specs.Fields.{lettersOf, letterOf, rowOf, rowCount, tableOf}
-use Rattle.table.specs.Inside.Right.{Tells, HeadRight, MiddleRight, TailRight, LetterRight}
+use Rattle.bits.specs.Tells.{Tells}
+use Rattle.table.specs.Inside.Right.{HeadRight, MiddleRight, TailRight, LetterRight}
 use Rattle.table.specs.RowCode.{rowIs}
 use Rattle.table.specs.declared.Row as Code
-use Rattle.table.proofs.Telling.{tells-as}
+use Rattle.bits.proofs.Telling.{tells-as}
 use Rattle.table.proofs.Reading.{alphabet-length, part-bytes, accept-past}
 use Rattle.checker.proofs.Framing.{framed-image}
 use Rattle.table.proofs.Encoded.{image-table, image-tail}

@@ -17,7 +17,8 @@ ghost use Rattle.bits.specs.Byte.{isLetter};
 ghost use Rattle.table.specs.Form.{lettersPlace, eitherCounter, toRight, mostChange};
 ghost use Rattle.table.specs.Table.{Accepting};
 ghost use Rattle.table.specs.Fields.{lettersOf, letterOf, rowOf, rowCount, tableOf};
-ghost use Rattle.table.specs.Inside.Right.{Tells, FieldAt, HeadRight, MiddleRight, TailRight, LetterRight};
+ghost use Rattle.bits.specs.Tells.{Tells};
+ghost use Rattle.table.specs.Inside.Right.{FieldAt, HeadRight, MiddleRight, TailRight, LetterRight};
 ghost use Rattle.table.specs.WellFormed.{SymbolCode, RowInRange, WellFormed};
 
 // Whether a field with this tag and this length starts here.

@@ -45,8 +45,8 @@ pub data ArmsEnd (to : ℕ) (alphabet : List ℕ) (p : ℕ) (first : Part) : Ts 
 pub record ArmsOf (to : ℕ) (alphabet : List ℕ) (p next : ℕ) (ts us : Ts) (part : Part) : Type 0 where
   pub behind : Ts
   pub arm : Part
-  pub block : BodyTask to alphabet next (suc next) ts behind arm
-  pub grows : suc next ≤ arm .next
+  pub block : BodyTask to alphabet next (next + 1) ts behind arm
+  pub grows : next + 1 ≤ arm .next
   pub end : ArmsEnd to alphabet p (andThen (armRow p next) arm) behind us part
 
 -- arms begin with `also`
@@ -79,17 +79,17 @@ arms-case {to} {alphabet} {p} {next} (lone {b = b} d) follows within below =
       behind = _;
       arm = _;
       block = aBody d within (omega arith);
-      grows = omega (arith, statements-next b alphabet next (suc next));
+      grows = omega (arith, statements-next b alphabet next (next + 1));
       end = last follows;
     }
 arms-case {to} {alphabet} {p} {next} (andMore {b = b} {a = a} d e) follows (within, later) below =
-    let grown = statements-next b alphabet next (suc next) in
+    let grown = statements-next b alphabet next (next + 1) in
     record {
       behind = _;
       arm = _;
       block = aBody d within (omega arith);
       grows = omega (arith, grown);
-      end = arms-end (andThen (armRow p next) (closedPart (statementsPart alphabet b next (suc next)) to)) a e follows later (omega (arith, grown));
+      end = arms-end (andThen (armRow p next) (closedPart (statementsPart alphabet b next (next + 1)) to)) a e follows later (omega (arith, grown));
     }
 
 pub arms-of : {to : ℕ} {alphabet : List ℕ} {p next : ℕ} {ts us : Ts} {part : Part} → ArmsTask to alphabet p next ts us part → ArmsOf to alphabet p next ts us part

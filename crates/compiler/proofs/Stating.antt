@@ -36,7 +36,7 @@ use Rattle.compiler.proofs.Nesting.{nothing-emitted, emitted-then, Head
 
 -- accept and reject take a state
 abbrev stopPart : List ℕ → ℕ → Part
-stopPart accepting next = record { rows = []; accepting = accepting; exit = next; next = suc next }
+stopPart accepting next = record { rows = []; accepting = accepting; exit = next; next = next + 1 }
 
 module _ {text before : List ℕ} {place : Place} {h : Sheet} {accepting : List ℕ} {rows : List Row} {p next : ℕ} {v : ℕ} {us : Ts}
     (stands : At text before place h accepting rows p next ((s ";" at v) ∷ us)) where

@@ -33,7 +33,7 @@ use Rattle.compiler.proofs.Emission.{at-room, at-rows, emitted-as}
 -- a plain statement's part
 abbrev pub stepPart : ℕ → ℕ → ℕ → ℕ → Part
 stepPart motion change p next =
-    record { rows = stepRow motion change p next ∷ []; accepting = []; exit = next; next = suc next }
+    record { rows = stepRow motion change p next ∷ []; accepting = []; exit = next; next = next + 1 }
 
 -- the last tokens of a plain statement stand from a place on, so many, and its part is this
 pub record Stepping (text : List ℕ) (from many : ℕ) (us : Ts) (part : Part) (p next motion change : ℕ) : Type 0 where

@@ -3,19 +3,19 @@ ghost use Prim.Native.Nat.{_<_};
 ghost use Rattle.text.specs.Token.{w};
 ghost use Rattle.compiler.specs.Inside.Emission.{Ready, Emits, HeadedTask, EntryTask, StatementTask, RestTask, BodyTask, ElseTask, ArmsTask};
 use super::Place;
-use super::plain::change;
+use super::plain::emit_change;
 use super::plain::emit_goto;
 use super::plain::emit_move;
-use super::plain::stop;
+use super::plain::emit_stop;
 use super::see::past;
 use super::see::see;
-use super::walk::tested;
+use super::walk::emit_condition;
 use super::write;
 use text::Sign;
 use text::Word;
 
 // A block, and a free row from its exit.
-fn body(text: &[u8], out: &mut [u8], place: Place, to: usize) -> Place
+fn emit_block(text: &[u8], out: &mut [u8], place: Place, to: usize) -> Place
     requires { ⌜ Ready (BodyTask to) (now text) (now out) place ⌝ }
     ensures { λ r. ⌜ Emits (BodyTask to) (now (text .entry)) (now (out .entry)) (now (out .exit)) place r ⌝ }
 {
@@ -25,7 +25,7 @@ fn body(text: &[u8], out: &mut [u8], place: Place, to: usize) -> Place
         next: place.next,
         row: place.row,
     };
-    let last = rest(text, out, inside);
+    let last = emit_statements(text, out, inside);
     let row = write::free(out, last.row, last.state, to);
     Place {
         at: last.at,
@@ -36,7 +36,7 @@ fn body(text: &[u8], out: &mut [u8], place: Place, to: usize) -> Place
 }
 
 // `else` and its block, or nothing; then a free row.
-fn otherwise(text: &[u8], out: &mut [u8], place: Place, to: usize) -> Place
+fn emit_else(text: &[u8], out: &mut [u8], place: Place, to: usize) -> Place
     requires { ⌜ Ready (ElseTask to) (now text) (now out) place ⌝ }
     ensures { λ r. ⌜ Emits (ElseTask to) (now (text .entry)) (now (out .entry)) (now (out .exit)) place r ⌝ }
 {
@@ -49,7 +49,7 @@ fn otherwise(text: &[u8], out: &mut [u8], place: Place, to: usize) -> Place
             next: place.next,
             row: place.row,
         };
-        body(text, out, behind, to)
+        emit_block(text, out, behind, to)
     } else {
         let row = write::free(out, place.row, place.state, to);
         Place {
@@ -75,25 +75,25 @@ fn emit_if(text: &[u8], out: &mut [u8], place: Place) -> Place
         next: exit + 3,
         row: place.row,
     };
-    let asked = tested(text, out, start, yes, no);
+    let asked = emit_condition(text, out, start, yes, no);
     let holding = Place {
         at: asked.at,
         state: yes,
         next: asked.next,
         row: asked.row,
     };
-    let first = body(text, out, holding, exit);
+    let first = emit_block(text, out, holding, exit);
     let failing = Place {
         at: first.at,
         state: no,
         next: first.next,
         row: first.row,
     };
-    otherwise(text, out, failing, exit)
+    emit_else(text, out, failing, exit)
 }
 
 // What stands between `while` and its block: `choose`, or a condition.
-fn entry(text: &[u8], out: &mut [u8], place: Place, into: usize, over: usize) -> Place
+fn emit_entry(text: &[u8], out: &mut [u8], place: Place, into: usize, over: usize) -> Place
     requires { ⌜ Ready (EntryTask into over) (now text) (now out) place ⌝ }
     ensures { λ r. ⌜ Emits (EntryTask into over) (now (text .entry)) (now (out .entry)) (now (out .exit)) place r ⌝ }
 {
@@ -109,12 +109,12 @@ fn entry(text: &[u8], out: &mut [u8], place: Place, into: usize, over: usize) ->
             row: end,
         }
     } else {
-        tested(text, out, place, into, over)
+        emit_condition(text, out, place, into, over)
     }
 }
 
 // while ( cond ) block and while choose block
-fn repeated(text: &[u8], out: &mut [u8], place: Place) -> Place
+fn emit_while(text: &[u8], out: &mut [u8], place: Place) -> Place
     requires { ⌜ Ready (HeadedTask (w "while")) (now text) (now out) place ⌝ }
     ensures { λ r. ⌜ Emits (HeadedTask (w "while")) (now (text .entry)) (now (out .entry)) (now (out .exit)) place r ⌝ }
 {
@@ -126,14 +126,14 @@ fn repeated(text: &[u8], out: &mut [u8], place: Place) -> Place
         next: exit + 2,
         row: place.row,
     };
-    let entered = entry(text, out, start, into, exit);
+    let entered = emit_entry(text, out, start, into, exit);
     let inside = Place {
         at: entered.at,
         state: into,
         next: entered.next,
         row: entered.row,
     };
-    let last = body(text, out, inside, place.state);
+    let last = emit_block(text, out, inside, place.state);
     Place {
         at: last.at,
         state: exit,
@@ -143,7 +143,7 @@ fn repeated(text: &[u8], out: &mut [u8], place: Place) -> Place
 }
 
 // Arms, behind the word before the first of them.
-fn arms(text: &[u8], out: &mut [u8], place: Place, to: usize) -> Place
+fn emit_arms(text: &[u8], out: &mut [u8], place: Place, to: usize) -> Place
     requires { ⌜ Ready (ArmsTask to) (now text) (now out) place ⌝ }
     ensures { λ r. ⌜ Emits (ArmsTask to) (now (text .entry)) (now (out .entry)) (now (out .exit)) place r ⌝ }
 {
@@ -155,7 +155,7 @@ fn arms(text: &[u8], out: &mut [u8], place: Place, to: usize) -> Place
         next: into + 1,
         row,
     };
-    let arm = body(text, out, start, to);
+    let arm = emit_block(text, out, start, to);
     let t = see(text, arm.at);
     let word = t.word;
     if let Word::Also = word {
@@ -165,14 +165,14 @@ fn arms(text: &[u8], out: &mut [u8], place: Place, to: usize) -> Place
             next: arm.next,
             row: arm.row,
         };
-        arms(text, out, more, to)
+        emit_arms(text, out, more, to)
     } else {
         arm
     }
 }
 
 // branch block also block ..
-fn branched(text: &[u8], out: &mut [u8], place: Place) -> Place
+fn emit_branch(text: &[u8], out: &mut [u8], place: Place) -> Place
     requires { ⌜ Ready (HeadedTask (w "branch")) (now text) (now out) place ⌝ }
     ensures { λ r. ⌜ Emits (HeadedTask (w "branch")) (now (text .entry)) (now (out .entry)) (now (out .exit)) place r ⌝ }
 {
@@ -183,19 +183,19 @@ fn branched(text: &[u8], out: &mut [u8], place: Place) -> Place
         next: exit + 1,
         row: place.row,
     };
-    arms(text, out, start, exit)
+    emit_arms(text, out, start, exit)
 }
 
 // accept ; makes the state that it starts from an accepting one.
-fn accepted(text: &[u8], out: &mut [u8], place: Place) -> Place
+fn emit_accept(text: &[u8], out: &mut [u8], place: Place) -> Place
     requires { ⌜ Ready (HeadedTask (w "accept")) (now text) (now out) place ⌝ }
     ensures { λ r. ⌜ Emits (HeadedTask (w "accept")) (now (text .entry)) (now (out .entry)) (now (out .exit)) place r ⌝ }
 {
     write::accept(out, place.state);
-    stop(text, place)
+    emit_stop(text, place)
 }
 
-fn statement(text: &[u8], out: &mut [u8], place: Place) -> Place
+fn emit_statement(text: &[u8], out: &mut [u8], place: Place) -> Place
     requires { ⌜ Ready StatementTask (now text) (now out) place ⌝ }
     ensures { λ r. ⌜ Emits StatementTask (now (text .entry)) (now (out .entry)) (now (out .exit)) place r × (place .at < r .at) ⌝ }
 {
@@ -210,17 +210,17 @@ fn statement(text: &[u8], out: &mut [u8], place: Place) -> Place
     match word {
         Word::Move => emit_move(text, out, behind),
         Word::Goto => emit_goto(text, out, behind),
-        Word::C => change(text, out, behind),
-        Word::Accept => accepted(text, out, behind),
-        Word::Reject => stop(text, behind),
+        Word::C => emit_change(text, out, behind),
+        Word::Accept => emit_accept(text, out, behind),
+        Word::Reject => emit_stop(text, behind),
         Word::If => emit_if(text, out, behind),
-        Word::While => repeated(text, out, behind),
-        _ => branched(text, out, behind),
+        Word::While => emit_while(text, out, behind),
+        _ => emit_branch(text, out, behind),
     }
 }
 
 // What is left of a block, and its brace.
-pub fn rest(text: &[u8], out: &mut [u8], place: Place) -> Place
+pub fn emit_statements(text: &[u8], out: &mut [u8], place: Place) -> Place
     requires { ⌜ Ready RestTask (now text) (now out) place ⌝ }
     ensures { λ r. ⌜ Emits RestTask (now (text .entry)) (now (out .entry)) (now (out .exit)) place r ⌝ }
 {
@@ -234,7 +234,7 @@ pub fn rest(text: &[u8], out: &mut [u8], place: Place) -> Place
             row: place.row,
         }
     } else {
-        let first = statement(text, out, place);
-        rest(text, out, first)
+        let first = emit_statement(text, out, place);
+        emit_statements(text, out, first)
     }
 }

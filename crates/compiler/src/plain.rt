@@ -98,7 +98,7 @@ const UP: u8 = form::NO_CHANGE + 1;
 const DOWN: u8 = form::NO_CHANGE - 1;
 
 // c ++ ; and c -- ; and c += n ; and c -= n ;
-pub fn change(text: &[u8], out: &mut [u8], place: Place) -> Place
+pub fn emit_change(text: &[u8], out: &mut [u8], place: Place) -> Place
     requires { ⌜ Ready (HeadedTask (w "c")) (now text) (now out) place ⌝ }
     ensures { λ r. ⌜ Emits (HeadedTask (w "c")) (now (text .entry)) (now (out .entry)) (now (out .exit)) place r ⌝ }
 {
@@ -137,7 +137,7 @@ pub fn change(text: &[u8], out: &mut [u8], place: Place) -> Place
 }
 
 // accept ; and reject ; take a state and add no row.
-pub fn stop(text: &[u8], place: Place) -> Place
+pub fn emit_stop(text: &[u8], place: Place) -> Place
     requires { ⌜ place .next ≤ 128 ⌝ }
     ensures { λ r. ⌜ Stops (now (text .entry)) place r ⌝ }
 {

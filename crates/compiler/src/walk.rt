@@ -121,7 +121,7 @@ fn rows(out: &mut [u8], at: usize, from: usize, to: usize, tests: reader::Atom, 
 }
 
 // An atom, as the reader answers it. In a program that is known to have one here it is found.
-fn atom(text: &[u8], out: &mut [u8], place: Place, to: usize, sign: bool) -> Place
+fn emit_atom(text: &[u8], out: &mut [u8], place: Place, to: usize, sign: bool) -> Place
     requires { ⌜ Ready (AtomTask to sign) (now text) (now out) place ⌝ }
     ensures { λ r. ⌜ Emits (AtomTask to sign) (now (text .entry)) (now (out .entry)) (now (out .exit)) place r ⌝ }
 {
@@ -139,7 +139,7 @@ fn atom(text: &[u8], out: &mut [u8], place: Place, to: usize, sign: bool) -> Pla
 }
 
 // What binds tightest: an atom, a negation, a condition in parentheses.
-fn operand(text: &[u8], out: &mut [u8], place: Place, to: usize, sign: bool) -> Place
+fn emit_operand(text: &[u8], out: &mut [u8], place: Place, to: usize, sign: bool) -> Place
     requires { ⌜ Ready (WalkTask tightest to sign) (now text) (now out) place ⌝ }
     ensures { λ r. ⌜ Emits (WalkTask tightest to sign) (now (text .entry)) (now (out .entry)) (now (out .exit)) place r ⌝ }
 {
@@ -152,9 +152,9 @@ fn operand(text: &[u8], out: &mut [u8], place: Place, to: usize, sign: bool) -> 
     };
     let first = t.sign;
     match first {
-        Sign::Not => operand(text, out, behind, to, !sign),
+        Sign::Not => emit_operand(text, out, behind, to, !sign),
         Sign::OpenParen => {
-            let inner = chain(text, out, behind, to, sign, true);
+            let inner = emit_chain(text, out, behind, to, sign, true);
             Place {
                 at: past(text, inner.at, 1),
                 state: inner.state,
@@ -162,19 +162,19 @@ fn operand(text: &[u8], out: &mut [u8], place: Place, to: usize, sign: bool) -> 
                 row: inner.row,
             }
         }
-        _ => atom(text, out, place, to, sign),
+        _ => emit_atom(text, out, place, to, sign),
     }
 }
 
 // What an operator joins: of `||` what `&&` joins, of `&&` what binds tightest.
-fn side(text: &[u8], out: &mut [u8], place: Place, to: usize, sign: bool, or: bool) -> Place
+fn emit_side(text: &[u8], out: &mut [u8], place: Place, to: usize, sign: bool, or: bool) -> Place
     requires { ⌜ Ready (WalkTask (joined or) to sign) (now text) (now out) place ⌝ }
     ensures { λ r. ⌜ Emits (WalkTask (joined or) to sign) (now (text .entry)) (now (out .entry)) (now (out .exit)) place r ⌝ }
 {
     if or {
-        chain(text, out, place, to, sign, false)
+        emit_chain(text, out, place, to, sign, false)
     } else {
-        operand(text, out, place, to, sign)
+        emit_operand(text, out, place, to, sign)
     }
 }
 
@@ -213,7 +213,7 @@ fn way(place: Place, to: usize, taking: bool) -> Course
 }
 
 // What `||` joins, or, if `or` is false, what `&&` joins. Both group to the right.
-fn chain(text: &[u8], out: &mut [u8], place: Place, to: usize, sign: bool, or: bool) -> Place
+fn emit_chain(text: &[u8], out: &mut [u8], place: Place, to: usize, sign: bool, or: bool) -> Place
     requires { ⌜ Ready (WalkTask (joins or) to sign) (now text) (now out) place ⌝ }
     ensures { λ r. ⌜ Emits (WalkTask (joins or) to sign) (now (text .entry)) (now (out .entry)) (now (out .exit)) place r ⌝ }
 {
@@ -225,14 +225,14 @@ fn chain(text: &[u8], out: &mut [u8], place: Place, to: usize, sign: bool, or: b
             next: w.next,
             row: place.row,
         };
-        let first = side(text, out, start, w.to, sign, or);
+        let first = emit_side(text, out, start, w.to, sign, or);
         let behind = Place {
             at: past(text, first.at, 1),
             state: w.from,
             next: first.next,
             row: first.row,
         };
-        let last = chain(text, out, behind, to, sign, or);
+        let last = emit_chain(text, out, behind, to, sign, or);
         Place {
             at: last.at,
             state: place.state,
@@ -240,12 +240,12 @@ fn chain(text: &[u8], out: &mut [u8], place: Place, to: usize, sign: bool, or: b
             row: last.row,
         }
     } else {
-        side(text, out, place, to, sign, or)
+        emit_side(text, out, place, to, sign, or)
     }
 }
 
 // A condition in its own parentheses: its rows from the place's state to `yes`, and those of its negation to `no`.
-pub fn tested(text: &[u8], out: &mut [u8], place: Place, yes: usize, no: usize) -> Place
+pub fn emit_condition(text: &[u8], out: &mut [u8], place: Place, yes: usize, no: usize) -> Place
     requires { ⌜ Ready (TestTask yes no) (now text) (now out) place ⌝ }
     ensures { λ r. ⌜ Emits (TestTask yes no) (now (text .entry)) (now (out .entry)) (now (out .exit)) place r ⌝ }
 {
@@ -256,14 +256,14 @@ pub fn tested(text: &[u8], out: &mut [u8], place: Place, yes: usize, no: usize) 
         next: place.next,
         row: place.row,
     };
-    let holding = chain(text, out, start, yes, true, true);
+    let holding = emit_chain(text, out, start, yes, true, true);
     let again = Place {
         at: inside,
         state: holding.state,
         next: holding.next,
         row: holding.row,
     };
-    let failing = chain(text, out, again, no, false, true);
+    let failing = emit_chain(text, out, again, no, false, true);
     Place {
         at: past(text, failing.at, 1),
         state: failing.state,

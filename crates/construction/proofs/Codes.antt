@@ -1,5 +1,5 @@
 -- Every row of the construction has codes within their ranges, and leads to a state that is taken.
-use Prim.Native.Nat.{ℕ, suc, _+_, _≤_, _<_}
+use Prim.Native.Nat.{ℕ, _+_, _≤_, _<_}
 use native.Mathlib.Omega.{arith}
 use mathlib.Core.Path.{refl}
 use mathlib.Core.Logic.{inl, inr}
@@ -182,13 +182,13 @@ module _ (alphabet : List ℕ) where
   walk-every P f (parens o c) sign p q next within = walk-every P f c sign p q next within
   walk-every P f (negation o c) sign p q next within = walk-every P f c (not sign) p q next within
   walk-every P f (both c d) true p q next within =
-      every-append _ (walk-every P f c true p next (suc next) (within .0)) (walk-every P f d true next q _ (within .1))
+      every-append _ (walk-every P f c true p next (next + 1) (within .0)) (walk-every P f d true next q _ (within .1))
   walk-every P f (both c d) false p q next within =
       every-append _ (walk-every P f c false p q next (within .0)) (walk-every P f d false p q _ (within .1))
   walk-every P f (either c d) true p q next within =
       every-append _ (walk-every P f c true p q next (within .0)) (walk-every P f d true p q _ (within .1))
   walk-every P f (either c d) false p q next within =
-      every-append _ (walk-every P f c false p next (suc next) (within .0)) (walk-every P f d false next q _ (within .1))
+      every-append _ (walk-every P f c false p next (next + 1) (within .0)) (walk-every P f d false next q _ (within .1))
 
   -- so every row of every part is fine
   module _ (limit : ℕ) where
@@ -236,7 +236,7 @@ module _ (alphabet : List ℕ) where
           → p < next
           → statementPart alphabet s p next .next ≤ limit
           → Every (Fine (length alphabet) limit) (statementPart alphabet s p next .rows)
-      statement-fine (plain t e) p next within h k = every-cons (record { codes = plain-codes e within; to = k }) every-nil
+      statement-fine (plain t e) p next within h k = every-cons (record { codes = plain-codes e within; to = omega arith }) every-nil
       statement-fine (accept t) p next within h k = every-nil
       statement-fine (reject t) p next within h k = every-nil
       statement-fine (if t c o b e) p next within h k =
@@ -316,18 +316,18 @@ module _ (alphabet : List ℕ) where
           → armsPart alphabet a p q next .next ≤ limit
           → Every (Fine (length alphabet) limit) (armsPart alphabet a p q next .rows)
       arms-fine (lastArm t o b) p q next within h i k =
-          let n = statements-next b alphabet next (suc next) in
+          let n = statements-next b alphabet next (next + 1) in
           every-cons (free-fine (omega arith))
           (every-append _
-          (statements-fine b next (suc next) within (omega arith) k)
+          (statements-fine b next (next + 1) within (omega arith) k)
           (every-cons (free-fine (omega arith)) every-nil))
       arms-fine (moreArms t o b a) p q next within h i k =
-          let first = statementsPart alphabet b next (suc next) in
-          let m = statements-next b alphabet next (suc next) in
+          let first = statementsPart alphabet b next (next + 1) in
+          let m = statements-next b alphabet next (next + 1) in
           let n = arms-next a alphabet p q (first .next) in
           every-cons (free-fine (omega arith))
           (every-append _
           (every-append (first .rows)
-          (statements-fine b next (suc next) (within .0) (omega arith) (omega arith))
+          (statements-fine b next (next + 1) (within .0) (omega arith) (omega arith))
           (every-cons (free-fine (omega arith)) every-nil))
           (arms-fine a p q (first .next) (within .1) (omega arith) (omega arith) k))

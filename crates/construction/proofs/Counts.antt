@@ -98,7 +98,7 @@ TakesStates w n = (p q next : ℕ) → w p q next .next ≡ next + n
 after-states : (a b : Walk) (m n : ℕ) → TakesStates a m → TakesStates b n → TakesStates (oneAfterOther a b) (1 + (m + n))
 unfolding oneAfterOther
 after-states a b m n f g p q next =
-    omega (arith, f p next (suc next), g next q (a p next (suc next) .next))
+    omega (arith, f p next (next + 1), g next q (a p next (next + 1) .next))
 
 or-states : (a b : Walk) (m n : ℕ) → TakesStates a m → TakesStates b n → TakesStates (oneOrOther a b) (m + n)
 unfolding oneOrOther
@@ -192,10 +192,10 @@ mutual
   pub arms-next :
       (a : Arms) (alphabet : List ℕ) (p q next : ℕ)
       → armsPart alphabet a p q next .next ≡ next + armsStates a
-  arms-next (lastArm t o b) alphabet p q next = omega (arith, statements-next b alphabet next (suc next))
+  arms-next (lastArm t o b) alphabet p q next = omega (arith, statements-next b alphabet next (next + 1))
   arms-next (moreArms t o b a) alphabet p q next =
-      let first = statementsPart alphabet b next (suc next) in
-      omega (arith, statements-next b alphabet next (suc next), arms-next a alphabet p q (first .next))
+      let first = statementsPart alphabet b next (next + 1) in
+      omega (arith, statements-next b alphabet next (next + 1), arms-next a alphabet p q (first .next))
 
 -- a program's table has the states that document 01 counts
 pub states-formula : (p : Program) → construct p .states ≡ programStates p
@@ -243,7 +243,7 @@ AddsRows w n = (p q next : ℕ) → length (w p q next .rows) ≡ n
 after-rows : (a b : Walk) (m n : ℕ) → AddsRows a m → AddsRows b n → AddsRows (oneAfterOther a b) (m + n)
 unfolding oneAfterOther
 after-rows a b m n f g p q next =
-    simp length-append (omega (arith, f p next (suc next), g next q (a p next (suc next) .next)))
+    simp length-append (omega (arith, f p next (next + 1), g next q (a p next (next + 1) .next)))
 
 or-rows : (a b : Walk) (m n : ℕ) → AddsRows a m → AddsRows b n → AddsRows (oneOrOther a b) (m + n)
 unfolding oneOrOther
@@ -372,13 +372,13 @@ module _ (alphabet : List ℕ) (few : length alphabet ≤ 16) where
         → ArmsSeek alphabet a
         → length (armsPart alphabet a p q next .rows) ≡ armsRows (length alphabet) a
     arms-rows (lastArm t o b) p q next within =
-        simp length-append (omega (arith, statements-rows b next (suc next) within))
+        simp length-append (omega (arith, statements-rows b next (next + 1) within))
     arms-rows (moreArms t o b a) p q next within =
-        let first = statementsPart alphabet b next (suc next) in
+        let first = statementsPart alphabet b next (next + 1) in
         simp length-append
         (omega (
           arith,
-          statements-rows b next (suc next) (within .0),
+          statements-rows b next (next + 1) (within .0),
           arms-rows a p q (first .next) (within .1),
         ))
 

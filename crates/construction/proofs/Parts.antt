@@ -1,5 +1,5 @@
 -- The parts of the construction start their rows from their own states and accept in them, and no row starts from an accepting state.
-use Prim.Native.Nat.{ℕ, suc, _+_, _≤_, _<_}
+use Prim.Native.Nat.{ℕ, _+_, _≤_, _<_}
 use native.Mathlib.Omega.{arith}
 use native.Mathlib.Nat.{le-refl}
 use mathlib.Core.Path.{_≡_, refl}
@@ -95,7 +95,7 @@ pub record Leads (p q next : ℕ) (added : Added) : Type 0 where
 -- one after another, over the state just taken
 leads-after :
     {p q next : ℕ} {a b : Added}
-    → Leads p next (suc next) a
+    → Leads p next (next + 1) a
     → Leads next q (a .next) b
     → Leads p q next (record { rows = a .rows ++ b .rows; next = b .next })
 leads-after f g =
@@ -165,13 +165,13 @@ leads-walk alphabet (atom t a) sign p q next = leads-atom alphabet sign a p q ne
 leads-walk alphabet (parens o c) sign p q next = leads-walk alphabet c sign p q next
 leads-walk alphabet (negation o c) sign p q next = leads-walk alphabet c (not sign) p q next
 leads-walk alphabet (both c d) true p q next =
-    leads-after (leads-walk alphabet c true p next (suc next)) (leads-walk alphabet d true next q _)
+    leads-after (leads-walk alphabet c true p next (next + 1)) (leads-walk alphabet d true next q _)
 leads-walk alphabet (both c d) false p q next =
     leads-or (leads-walk alphabet c false p q next) (leads-walk alphabet d false p q _)
 leads-walk alphabet (either c d) true p q next =
     leads-or (leads-walk alphabet c true p q next) (leads-walk alphabet d true p q _)
 leads-walk alphabet (either c d) false p q next =
-    leads-after (leads-walk alphabet c false p next (suc next)) (leads-walk alphabet d false next q _)
+    leads-after (leads-walk alphabet c false p next (next + 1)) (leads-walk alphabet d false next q _)
 
 -- a condition's rows and its negation's, from p
 test-from :
@@ -204,7 +204,7 @@ closed q b = b .laid _ (every-cons refl every-nil)
 pub record Lone (p next : ℕ) (part : Part) : Type 0 where
   pub grows : next < part .next
   pub exit : part .exit ≡ next
-  pub laid : Laid (Own p (suc next) (part .next)) (Own p (suc next) (part .next)) (part .rows) (part .accepting)
+  pub laid : Laid (Own p (next + 1) (part .next)) (Own p (next + 1) (part .next)) (part .rows) (part .accepting)
 
 -- arms from p to q
 pub record Many (p q next : ℕ) (part : Part) : Type 0 where
@@ -344,10 +344,10 @@ module _ (alphabet : List ℕ) where
     -- a statement
     pub statement-lone : (s : Statement) (p next : ℕ) → p < next → Lone p next (statementPart alphabet s p next)
     statement-lone (plain t e) p next h =
-        record { grows = le-refl _; exit = refl; laid = laid-rows (every-cons (start refl) every-nil) }
+        record { grows = omega arith; exit = refl; laid = laid-rows (every-cons (start refl) every-nil) }
     statement-lone (accept t) p next h =
         record {
-          grows = le-refl _;
+          grows = omega arith;
           exit = refl;
           laid =
               record {
@@ -356,7 +356,7 @@ module _ (alphabet : List ℕ) where
                 apart = λ r s m n. absurd (List·Memᴰ·not-nil m);
               };
         }
-    statement-lone (reject t) p next h = record { grows = le-refl _; exit = refl; laid = laid-rows every-nil }
+    statement-lone (reject t) p next h = record { grows = omega arith; exit = refl; laid = laid-rows every-nil }
     statement-lone (if t c o b e) p next h =
         let grows = test-next alphabet c p (next + 1) (next + 2) (next + 3) in
         let first = statements-series b (next + 1) (test alphabet c p (next + 1) (next + 2) (next + 3) .next) (omega arith) in
@@ -394,8 +394,8 @@ module _ (alphabet : List ℕ) where
     -- a branch's arms after the first
     pub arms-many : (a : Arms) (p q next : ℕ) → p < next → Many p q next (armsPart alphabet a p q next)
     arms-many (lastArm t o b) p q next h =
-        arm-many _ q h (le-refl _) (statements-series b next (suc next) (le-refl _))
+        arm-many _ q h (omega arith) (statements-series b next (next + 1) (omega arith))
     arms-many (moreArms t o b a) p q next h =
-        let first = arm-many _ q h (le-refl _) (statements-series b next (suc next) (le-refl _)) in
+        let first = arm-many _ q h (omega arith) (statements-series b next (next + 1) (omega arith)) in
         let grows = first .grows in
         many-then h first (arms-many a p q _ (omega arith))

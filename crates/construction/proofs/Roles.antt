@@ -95,8 +95,8 @@ module _ {role : ℕ → Role} {n : ℕ} where
   pub given-first : {m : Role} {ms : List Role} → Given role n (m ∷ ms) → role n ≡ m
   given-first (one e g) = e
 
-  pub given-rest : {m : Role} {ms : List Role} → Given role n (m ∷ ms) → Given role (suc n) ms
-  given-rest (one e g) = g
+  pub given-rest : {m : Role} {ms : List Role} → Given role n (m ∷ ms) → Given role (n + 1) ms
+  given-rest (one e g) = rw add-one g
 
   -- the second, the third, and those behind, with numerals as the construction writes them
   pub given-second : {a b : Role} {ms : List Role} → Given role n (a ∷ b ∷ ms) → role (n + 1) ≡ b

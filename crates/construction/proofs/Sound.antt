@@ -1,6 +1,6 @@
 -- Sound rows: where the program has come to what a state's role says, a step of the table keeps this.
 -- A row is looked at where the construction adds it, so that no row need be sought by its state.
-use Prim.Native.Nat.{ℕ, suc, _≤_}
+use Prim.Native.Nat.{ℕ, _+_, _≤_}
 use mathlib.Core.Path.{_≡_, refl, sym, _∙_}
 use mathlib.Core.Logic.{_⊎_, inl, inr}
 use mathlib.Core.Bool.{Bool, true, false, not}
@@ -238,9 +238,9 @@ module _ (x : Trial) (role : ℕ → Role) where
         walked =
             λ s u next more given k.
             let middle = given-first given in
-            let first = f .walked s next (suc next) _ (given-rest given) (λ cell counter e h. rw middle (knowing h e)) in
+            let first = f .walked s next (next + 1) _ (given-rest given) (λ cell counter e h. rw middle (knowing h e)) in
             tested-append first
-            (g .walked next u (a s next (suc next) .next) more (rw middle (first .given))
+            (g .walked next u (a s next (next + 1) .next) more (rw middle (first .given))
             (λ cell counter e h. k cell counter (learnt s next middle h .1, e) (learnt s next middle h .0)));
       }
 

@@ -1,5 +1,5 @@
 -- Table to program: every row of the construction is sound, and a part accepts only where an `accept` is in front.
-use Prim.Native.Nat.{ℕ, suc, _+_}
+use Prim.Native.Nat.{ℕ, _+_}
 use mathlib.Core.Path.{_≡_, sym, _∙_}
 use mathlib.Core.Bool.{true, false}
 use mathlib.Core.List.{List, _∷_}
@@ -286,10 +286,10 @@ module _ (x : Trial) (role : ℕ → Role) where
         → Right x role (armsPart (t .alphabet) a s q next) rest more
     arms-right (lastArm o o′ b) s q next rest more within left enter right given =
         let into = turn-sound x role s next left (given-first given) (enter b lastOne) in
-        let body = statements-right b next (suc next) rest more within (given-first given) (given-rest given) in
+        let body = statements-right b next (next + 1) rest more within (given-first given) (given-rest given) in
         arm-right s next q into body right
     arms-right (moreArms o o′ b a) s q next rest more within left enter right given =
         let into = turn-sound x role s next left (given-first given) (enter b thisOne) in
-        let body = statements-right b next (suc next) rest _ (within .0) (given-first given) (given-rest given) in
+        let body = statements-right b next (next + 1) rest _ (within .0) (given-first given) (given-rest given) in
         let first = arm-right s next q into body right in
         then-right first (arms-right a s q _ rest more (within .1) left (λ c m. enter c (another m)) right (first .given))

@@ -1,6 +1,6 @@
 -- Program to table: whatever a run of the program comes to, a run of the table reaches a state that stands for it.
 -- Each step of the program is one row or several, with the counter as it is until the last.
-use Prim.Native.Nat.{ℕ, suc, _≤_}
+use Prim.Native.Nat.{ℕ, _+_, _≤_}
 use mathlib.Core.Path.{_≡_, refl, sym, _∙_}
 use mathlib.Core.Logic.{_⊎_, ⊎-elim}
 use mathlib.Core.Bool.{Bool, true, false, not}
@@ -158,9 +158,9 @@ module _ (x : Trial) where
         record {
           leads =
               λ p q next h rows here.
-              let first = a p next (suc next) in
+              let first = a p next (next + 1) in
               g .leads next q (first .next) (h .1) (every-right (first .rows) _ rows)
-              (f .leads p next (suc next) (h .0) (every-left (first .rows) _ rows) here);
+              (f .leads p next (next + 1) (h .0) (every-left (first .rows) _ rows) here);
         }
 
     -- `a || b`: where one of them holds
@@ -288,9 +288,9 @@ module _ (x : Trial) where
         → At p cell counter
         → Arrived (b before rest) cell counter
     unfolding armsPart ArmsWithin
-    arms-arrive p q next (lastOne {b = b}) within has after here = arm-arrives b p next q (suc next) within has after here
+    arms-arrive p q next (lastOne {b = b}) within has after here = arm-arrives b p next q (next + 1) within has after here
     arms-arrive p q next (thisOne {b = b}) within has after here =
-        arm-arrives b p next q (suc next) (within .0) (has-first _ _ has) after here
+        arm-arrives b p next q (next + 1) (within .0) (has-first _ _ has) after here
     arms-arrive p q next (another m) within has after here =
         arms-arrive p q _ m (within .1) (has-second _ _ has) after here
 

@@ -145,7 +145,7 @@ Walk = ℕ → ℕ → ℕ → Added
 -- `a && b`: take m, rows of a from p to m, rows of b from m to q
 unfoldable pub oneAfterOther : Walk → Walk → Walk
 oneAfterOther a b p q next =
-    let first : Added = a p next (suc next) in
+    let first : Added = a p next (next + 1) in
     let second : Added = b next q (first .next) in
     record { rows = first .rows ++ second .rows; next = second .next }
 
@@ -230,9 +230,9 @@ andThen a b =
 unfoldable mutual
   pub statementPart : List ℕ → Statement → ℕ → ℕ → Part
   statementPart alphabet (plain t e) p next =
-      record { rows = plainRow e p next ∷ []; accepting = []; exit = next; next = suc next }
-  statementPart alphabet (accept t) p next = record { rows = []; accepting = p ∷ []; exit = next; next = suc next }
-  statementPart alphabet (reject t) p next = record { rows = []; accepting = []; exit = next; next = suc next }
+      record { rows = plainRow e p next ∷ []; accepting = []; exit = next; next = next + 1 }
+  statementPart alphabet (accept t) p next = record { rows = []; accepting = p ∷ []; exit = next; next = next + 1 }
+  statementPart alphabet (reject t) p next = record { rows = []; accepting = []; exit = next; next = next + 1 }
   statementPart alphabet (if t c o b e) p next =
       let tests : Added = test alphabet c p (next + 1) (next + 2) (next + 3) in
       let yesPart : Part = statementsPart alphabet b (next + 1) (tests .next) in
@@ -262,9 +262,9 @@ unfoldable mutual
       andThen first (statementsPart alphabet b (first .exit) (first .next))
 
   pub armsPart : List ℕ → Arms → ℕ → ℕ → ℕ → Part
-  armsPart alphabet (lastArm t o b) p q next = armPart (statementsPart alphabet b next (suc next)) p next q
+  armsPart alphabet (lastArm t o b) p q next = armPart (statementsPart alphabet b next (next + 1)) p next q
   armsPart alphabet (moreArms t o b a) p q next =
-      let first : Part = armPart (statementsPart alphabet b next (suc next)) p next q in
+      let first : Part = armPart (statementsPart alphabet b next (next + 1)) p next q in
       andThen first (armsPart alphabet a p q (first .next))
 
 -- bytes with the bit of each of these states set

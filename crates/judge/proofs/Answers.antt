@@ -8,16 +8,17 @@ use mathlib.Core.List.{List}
 use lib.Dec.{ltb}
 use borrow.Author.Tests.{ltb-true, ltb-false}
 use Rattle.bits.specs.Bit.{bit}
-use Rattle.table.proofs.Telling.{tells-no}
+use Rattle.bits.proofs.Telling.{tells-no}
 use Rattle.table.specs.Table.{Table, Accepting}
-use Rattle.table.specs.Inside.Right.{Tells}
+use Rattle.bits.specs.Tells.{Tells}
 use Rattle.judge.specs.Inside.Search.{situationOf, MarkedAccepts}
-use Rattle.judge.specs.Inside.Inner.{Quiet, FirstSet, AcceptsIn}
+use Rattle.ones.specs.Blank.{Blank}
+use Rattle.judge.specs.Inside.Inner.{FirstSet, AcceptsIn}
 
 -- a bit in a byte that is 0 is not set
-quiet-bit : (m : List ℕ) (from to i : ℕ) → Quiet m from to → from * 8 ≤ i → i < to * 8 → ¬ (bit m i ≡ 1)
+blank-bit : (m : List ℕ) (from to i : ℕ) → Blank m from to → from * 8 ≤ i → i < to * 8 → ¬ (bit m i ≡ 1)
 unfolding bit
-quiet-bit m from to i quiet low high one = omega (arith, rw (quiet .zero (i / 8) (omega arith) (omega arith), zero-div) at one)
+blank-bit m from to i quiet low high one = omega (arith, rw (quiet .zero (i / 8) (omega arith) (omega arith), zero-div) at one)
 
 -- a state accepts in the marks if it accepts and one of its bits is set
 pub accepts-none : (t : Table) (m : List ℕ) (state : ℕ) → ¬ Accepting t state → Tells false (AcceptsIn t m state)
@@ -32,7 +33,7 @@ accepts-first t m state first low accepting found = record {
       record { mark = first; low = omega arith; here = omega (arith, found .low); set = found .set inside; accepting = accepting };
   fails = λ e a.
       let here = a .here in
-      quiet-bit m (state * 256) (state * 256 + 256) (a .mark) (found .none (ltb-false first ((state * 256 + 256) * 8) e)) (omega arith) (omega arith) (a .set);
+      blank-bit m (state * 256) (state * 256 + 256) (a .mark) (found .none (ltb-false first ((state * 256 + 256) * 8) e)) (omega arith) (omega arith) (a .set);
 }
 
 module _ {t : Table} {m : List ℕ} where

@@ -1,4 +1,4 @@
--- Bytes that are all 0, and the lowest bit of one that is not.
+-- The lowest bit of a byte that is not 0, and the first in bytes.
 use Prim.Native.Nat.{ℕ, zero, suc, _+_, _-_, _*_, _/_, _%_, _^_, _≤_, _<_, suc-le-suc}
 use native.Mathlib.Nat.{pow-suc, zero-lt-suc}
 use native.Mathlib.Decide.{decLt}
@@ -7,20 +7,16 @@ use native.Mathlib.Numerals.{one-add}
 use mathlib.Core.Path.{_≡_, refl, sym, _∙_, subst}
 use mathlib.Core.List.{List}
 use lib.ListN.{length, getD, List·getD-eq-default}
-use lib.Bits.{bitOr, or-add-and, and-le-l, and-le-r}
 use lib.Count.{trailingZeros, under, trailing-le}
 use mir.Syntax.{w64}
 use mir.Val.{Fits}
 use lib.Pow.{shr-shr}
-use lib.Dec.{eqb}
-use borrow.Author.Count.{below-more}
-use borrow.Author.Tests.{eqb-true, eqb-false}
 use Rattle.bits.specs.Bit.{bit}
 use Rattle.bits.proofs.Bits.{bit-of-byte}
-use Rattle.table.specs.Inside.Right.{Tells}
+use Rattle.ones.specs.Blank.{Blank}
 use Rattle.judgement.specs.Marks.{markBytes, firstHalf}
 use Rattle.judge.specs.Inside.Search.{situations}
-use Rattle.judge.specs.Inside.Inner.{Quiet, FirstSet, Guess, TryRight, Picked}
+use Rattle.judge.specs.Inside.Inner.{FirstSet, Guess, TryRight, Picked}
 use Rattle.judge.specs.declared.pending.Try.{Try}
 use Rattle.judge.specs.declared.pending.Try.the-variants.{Found}
 
@@ -49,40 +45,6 @@ lowest-set (suc k) n low some =
 pub trailing-fits : (n : ℕ) → Fits w64 (trailingZeros 64 n)
 trailing-fits n = omega (arith, trailing-le 64 n)
 
--- two numbers that are 0 together
-or-zero : (a b : ℕ) → bitOr a b ≡ 0 → (a ≡ 0) × (b ≡ 0)
-or-zero a b none = omega (arith, or-add-and a b, and-le-l a b, and-le-r a b)
-
--- no byte, and one more
-pub quiet-none : (m : List ℕ) (from : ℕ) → Quiet m from from
-quiet-none m from = record { zero = λ k low high. absurd (omega arith) }
-
-pub quiet-more : (m : List ℕ) (from at : ℕ) → Quiet m from at → getD m at 0 ≡ 0 → Quiet m from (at + 1)
-quiet-more m from at quiet none = record {
-  zero = λ k low high. below-more (λ i. from ≤ i → getD m i 0 ≡ 0) at (λ i high′ low′. quiet .zero i low′ high′) (λ low′. none) k high low;
-}
-
--- the bytes passed are all 0 exactly if what was gathered of them is
-pub record Gathered (m : List ℕ) (from at all : ℕ) : Type 0 where
-  pub quiet : all ≡ 0 → Quiet m from at
-  pub none : Quiet m from at → all ≡ 0
-
-pub gathered-none : (m : List ℕ) (from : ℕ) → Gathered m from from 0
-gathered-none m from = record { quiet = λ e. quiet-none m from; none = λ q. refl }
-
-pub gathered-more : (m : List ℕ) (from at all : ℕ) → from ≤ at → Gathered m from at all → Gathered m from (at + 1) (bitOr all (getD m at 0))
-gathered-more m from at all ahead g = record {
-  quiet = λ e. let both = or-zero all (getD m at 0) e in quiet-more m from at (g .quiet (both .0)) (both .1);
-  none = λ q. rw (g .none (record { zero = λ k low high. q .zero k low (omega arith) }), q .zero at ahead (omega arith)) refl;
-}
-
--- so whether that is 0 tells whether they are
-pub gathered-all : (m : List ℕ) (from at to all : ℕ) → at ≡ to → Gathered m from at all → Tells (eqb all 0) (Quiet m from to)
-gathered-all m from at to all end g = record {
-  holds = λ e. subst (Quiet m from) end (g .quiet (eqb-true all 0 e));
-  fails = λ e q. eqb-false all 0 e (g .none (subst (Quiet m from) (sym end) q));
-}
-
 -- the first bit that is set stands in the first byte that is not 0
 pub first-here
     : (m : List ℕ) (from at to place : ℕ) → from ≤ at → at < to → place < 8 → getD m at 0 / 2 ^ place % 2 ≡ 1 → FirstSet m from to (at * 8 + place)
@@ -93,12 +55,12 @@ first-here m from at to place ahead inside low set = record {
   none = λ l. absurd (omega arith);
 }
 
-pub first-nowhere : (m : List ℕ) (from at to : ℕ) → from ≤ to → at ≡ to → Quiet m from at → FirstSet m from to (to * 8)
-first-nowhere m from at to ahead end quiet = record {
+pub first-nowhere : (m : List ℕ) (from at to : ℕ) → from ≤ to → at ≡ to → Blank m from at → FirstSet m from to (to * 8)
+first-nowhere m from at to ahead end blank = record {
   low = omega arith;
   high = omega arith;
   set = λ l. absurd (omega arith);
-  none = λ l. subst (Quiet m from) end quiet;
+  none = λ l. subst (Blank m from) end blank;
 }
 
 -- a bit of the second half that is set is a pending situation's

@@ -13,7 +13,7 @@ use Rattle.ones.specs.Ones.{Ones}
 use Rattle.bits.proofs.Change.{bit-take-low, bit-zeros}
 use Rattle.bits.proofs.Size.{size-numbered}
 use Rattle.table.specs.Table.{Table, Accepting}
-use Rattle.table.specs.Inside.Right.{Tells}
+use Rattle.bits.specs.Tells.{Tells}
 use Rattle.table.specs.declared.source.Source.{Source}
 use Rattle.machine.specs.Step.{Situation, Takes, Step}
 use Rattle.machine.specs.Run.{Reach, begins, goes, Accepts, Passes}

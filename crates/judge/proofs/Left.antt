@@ -1,48 +1,21 @@
 -- How many situations are not followed yet: the search ends because this falls.
-use Prim.Native.Nat.{ℕ, zero, suc, _+_, _-_, _≤_, _<_, zero-le}
-use native.Mathlib.Nat.{le-refl, eq-or-lt-of-le, le-of-suc-le-suc}
+use Prim.Native.Nat.{ℕ, _+_, _-_, _≤_, _<_}
 use native.Mathlib.Decide.{ℕ-discrete}
 use native.Mathlib.Omega.{arith}
-use mathlib.Core.Path.{_≡_, subst}
-use mathlib.Core.Logic.{⊎-elim}
+use mathlib.Core.Path.{_≡_}
 use mathlib.Core.List.{List}
 use Rattle.bits.specs.Bit.{bit}
+use Rattle.bits.specs.Inside.Sum.{sumBelow}
 use Rattle.bits.proofs.Bits.{bit-zero-or-one}
+use Rattle.bits.proofs.Sum.{sum-at-most, sum-rises}
 use Rattle.judge.specs.Inside.Search.{situations, Followed, Keeps}
-
--- the sum of a function over the numbers below n
-sum : (ℕ → ℕ) → ℕ → ℕ
-sum f zero = 0
-sum f (suc n) = f n + sum f n
-
--- it is at most n, where the function is at most 1
-sum-at-most : (f : ℕ → ℕ) → ((j : ℕ) → f j ≤ 1) → (n : ℕ) → sum f n ≤ n
-unfolding sum
-sum-at-most f one zero = zero-le
-sum-at-most f one (suc n) = omega (arith, one n, sum-at-most f one n)
-
--- it does not fall with the function
-sum-grows : (f g : ℕ → ℕ) (n : ℕ) → ((j : ℕ) → j < n → f j ≤ g j) → sum f n ≤ sum g n
-unfolding sum
-sum-grows f g zero more = zero-le
-sum-grows f g (suc n) more = omega (arith, more n (le-refl (suc n)), sum-grows f g n (λ j l. more j (omega arith)))
-
--- and rises where the function rises somewhere
-sum-rises : (f g : ℕ → ℕ) (n : ℕ) → ((j : ℕ) → j < n → f j ≤ g j) → (i : ℕ) → i < n → f i < g i → sum f n < sum g n
-unfolding sum
-sum-rises f g zero more i low rise = absurd (omega arith)
-sum-rises f g (suc n) more i low rise =
-    ⊎-elim
-    (λ (e : i ≡ n). omega (arith, subst (λ (k : ℕ). f k < g k) e rise, sum-grows f g n (λ j l. more j (omega arith))))
-    (λ (l : i < n). omega (arith, more n (le-refl (suc n)), sum-rises f g n (λ j l′. more j (omega arith)) i l rise))
-    (eq-or-lt-of-le (le-of-suc-le-suc low))
 
 -- 1 if situation i is followed, else 0
 following : List ℕ → ℕ → ℕ
 following m i = bit m i - bit m (i + situations)
 
 pub left : List ℕ → ℕ
-left m = situations - sum (following m) situations
+left m = situations - sumBelow (following m) situations
 
 module _ (m : List ℕ) (i : ℕ) where
   following-one : Followed m i → following m i ≡ 1

@@ -9,7 +9,7 @@ ghost use mathlib.Core.Path.{_≡_};
 ghost use Prim.Native.Nat.{_<_};
 ghost use lib.ListN.{length};
 ghost use Rattle.table.specs.Fields.{tableOf};
-ghost use Rattle.table.specs.Inside.Right.{Tells};
+ghost use Rattle.bits.specs.Tells.{Tells};
 ghost use Rattle.judgement.specs.Marks.{markBytes};
 ghost use Rattle.judgement.specs.Verdict.{verdictNumber};
 ghost use Rattle.judgement.specs.Judge.{Judges};

@@ -5,10 +5,9 @@
 ghost use mathlib.Core.Path.{_≡_};
 ghost use Prim.Native.Nat.{_+_, _^_, _/_, _%_, _≤_, _<_};
 ghost use lib.ListN.{length};
-ghost use Rattle.table.specs.Inside.Right.{Tells};
 ghost use Rattle.judgement.specs.Marks.{markBytes};
 ghost use Rattle.judge.specs.Inside.Search.{situations, marked};
-ghost use Rattle.judge.specs.Inside.Inner.{Quiet, FirstSet, Guess, TryRight, Picked};
+ghost use Rattle.judge.specs.Inside.Inner.{FirstSet, Guess, TryRight, Picked};
 
 pub const SITUATIONS: usize = 262144;
 
@@ -17,20 +16,6 @@ pub enum Try {
     Found(usize),
     Stale,
     Nothing,
-}
-
-// Whether the bytes from one place up to another are all 0.
-fn quiet(marks: &[u8], from: usize, to: usize) -> bool
-    requires { ⌜ (from ≤ to) × (to ≤ length (now marks)) ⌝ }
-    ensures { λ r. ⌜ Tells r (Quiet (now (marks .entry)) from to) ⌝ }
-{
-    let mut all: u8 = 0;
-    let mut at = from;
-    while at < to {
-        all = all | marks[at];
-        at += 1;
-    }
-    all == 0
 }
 
 // The lowest bit of a byte that is set.
@@ -46,7 +31,7 @@ pub fn first_set(marks: &[u8], from: usize, to: usize) -> usize
     requires { ⌜ (from ≤ to) × (to ≤ markBytes) × (length (now marks) ≡ markBytes) ⌝ }
     ensures { λ r. ⌜ FirstSet (now (marks .entry)) from to r ⌝ }
 {
-    if quiet(marks, from, to) {
+    if ones::blank(marks, from, to) {
         return to * 8;
     }
     let mut at = from;

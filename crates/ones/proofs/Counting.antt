@@ -13,7 +13,10 @@ use lib.Count.{ones, ones-step}
 use Rattle.bits.specs.Bit.{bit}
 use Rattle.bits.specs.Size.{Size}
 use Rattle.ones.specs.Ones.{Ones}
-use Rattle.ones.specs.Inside.Between.{sumBelow, OnesBetween}
+use Rattle.ones.specs.Inside.Between.{OnesBetween}
+use Rattle.bits.specs.Inside.Sum.{sumBelow}
+use Rattle.bits.proofs.Sum.{sum-at-most, sum-more, sum-first, sum-same}
+use Rattle.ones.specs.Blank.{Blank}
 use Rattle.bits.proofs.Bits.{bit-zero-or-one, bit-of-byte, half-bits}
 use Rattle.bits.proofs.Size.{size-once}
 use Rattle.bits.proofs.Change.{bit-inside, bit-take}
@@ -103,31 +106,6 @@ module _ (f : ℕ → ℕ) (digit : (i : ℕ) → f i < 2) where
     many = picked-many n;
   }
 
-  -- the sum is at most n
-  pub sum-at-most : (n : ℕ) → sumBelow f n ≤ n
-  unfolding sumBelow
-  sum-at-most zero = omega arith
-  sum-at-most (suc n) = omega (arith, sum-at-most n, digit n)
-
--- a sum from below, and a sum from there on
-sum-more : (f : ℕ → ℕ) (n k : ℕ) → sumBelow f (n + k) ≡ sumBelow (λ (j : ℕ). f (n + j)) k + sumBelow f n
-unfolding sumBelow
-sum-more f n zero = rw add-zero (omega arith)
-sum-more f n (suc k) = rw add-suc (omega (arith, sum-more f n k))
-
--- the first term, and the others
-sum-first : (f : ℕ → ℕ) (n : ℕ) → sumBelow f (suc n) ≡ f 0 + sumBelow (λ (j : ℕ). f (suc j)) n
-unfolding sumBelow
-sum-first f zero = refl
-sum-first f (suc n) = omega (arith, sum-first f n)
-
--- equal terms, equal sums
-sum-same : (f g : ℕ → ℕ) (n : ℕ) → ((j : ℕ) → j < n → f j ≡ g j) → sumBelow f n ≡ sumBelow g n
-unfolding sumBelow
-sum-same f g zero same = refl
-sum-same f g (suc n) same =
-    ap₂ (λ (x y : ℕ). x + y) (same n (le-refl (suc n))) (sum-same f g n (λ j l. same j (omega arith)))
-
 first : (a : ℕ) → a / 2 ^ 0 % 2 ≡ a % 2
 first a = omega arith
 
@@ -156,22 +134,28 @@ ones-more {m} {from} {i} byte so =
     record { sum = rw next (omega (arith, sum-more (bit m) (i * 8) 8, terms, sum-of-digits 8 (getD m i 0) byte, so .sum)) }
 
 -- no bit is set in bytes that are 0
-pub blank-more
-    : {m : List ℕ} {from i : ℕ} (all : ℕ) → getD m i 0 < 256 → (all ≡ 0 → OnesBetween m from i 0) → bitOr all (getD m i 0) ≡ 0 → OnesBetween m from (i + 1) 0
+ones-zero : {m : List ℕ} {from i : ℕ} → getD m i 0 ≡ 0 → OnesBetween m from i 0 → OnesBetween m from (i + 1) 0
 unfolding ones
-blank-more {m} {from} {i} all byte so none =
-    let both : (all ≡ 0) × (getD m i 0 ≡ 0) =
-    let a = or-add-and all (getD m i 0) in
-    let b = and-le-l all (getD m i 0) in
-    let c = and-le-r all (getD m i 0) in
-    (omega arith, omega arith) in
-    let none′ : ones (getD m i 0) ≡ 0 = ap ones (both .1) in
-    let sum : 0 + ones (getD m i 0) ≡ 0 = omega (arith, none′) in
-    subst (OnesBetween m from (i + 1)) sum (ones-more byte (so (both .0)))
+ones-zero {m} {from} {i} nothing so =
+    let none : 0 + ones (getD m i 0) ≡ 0 = rw nothing refl in
+    subst (OnesBetween m from (i + 1)) none (ones-more (omega arith) so)
+
+blank-ones : {m : List ℕ} {from : ℕ} (k : ℕ) → Blank m from (from + k) → OnesBetween m from (from + k) 0
+blank-ones {m} {from} zero blank = rw add-zero (ones-none m from)
+blank-ones {m} {from} (suc k) blank =
+    rw (next) (ones-zero (blank .zero (from + k) (omega arith) (omega arith)) (blank-ones k (record { zero = λ i low high. blank .zero i low (omega arith) })))
+  where
+    next : from + suc k ≡ from + k + 1
+    next = omega arith
 
 -- up to the same place
 pub ones-to : {m : List ℕ} {from i to n : ℕ} → i ≡ to → OnesBetween m from i n → OnesBetween m from to n
 ones-to {m} {from} {n = n} end so = subst (λ (x : ℕ). OnesBetween m from x n) end so
+
+pub ones-blank : {m : List ℕ} {from to : ℕ} → from ≤ to → Blank m from to → OnesBetween m from to 0
+ones-blank {m} {from} {to} ahead blank =
+    let end : from + (to - from) ≡ to = omega arith in
+    ones-to end (blank-ones (to - from) (rw end blank))
 
 -- the next bytes' ones are added
 pub ones-both : {m : List ℕ} {from mid to n k : ℕ} → OnesBetween m from mid n → OnesBetween m mid to k → OnesBetween m from to (n + k)
@@ -185,7 +169,7 @@ ones-at-most {m} {from} {to} ahead so =
       arith,
       so .sum,
       rw parts at (sum-more (bit m) (from * 8) ((to - from) * 8)),
-      sum-at-most (λ (j : ℕ). bit m (from * 8 + j)) (λ j. bit-zero-or-one m (from * 8 + j)) ((to - from) * 8),
+      sum-at-most (λ (j : ℕ). bit m (from * 8 + j)) (λ j. omega (arith, bit-zero-or-one m (from * 8 + j))) ((to - from) * 8),
     )
 
 -- after the first bytes the sum is the number of their bits that are set

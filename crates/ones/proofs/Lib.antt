@@ -1,2 +1,3 @@
--- Laws of the count of ones, byte by byte.
+-- Laws of the count of ones, byte by byte, and of bytes that are all 0.
+pub mod Blanks
 pub mod Counting

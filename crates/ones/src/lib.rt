@@ -1,8 +1,9 @@
-// How many bits of a slice of bytes are set.
+// How many bits of a slice of bytes are set, and whether none is.
 ghost use mathlib.Core.Path.{_≡_};
-ghost use mathlib.Core.Bool.{true};
 ghost use Prim.Native.Nat.{_+_, _≤_, min};
 ghost use lib.ListN.{length, take};
+ghost use Rattle.bits.specs.Tells.{Tells};
+ghost use Rattle.ones.specs.Blank.{Blank};
 ghost use Rattle.ones.specs.Ones.{Ones};
 ghost use Rattle.ones.specs.Inside.Between.{OnesBetween};
 
@@ -12,14 +13,14 @@ fn at_most(n: usize, most: usize) -> usize
     if n < most { n } else { most }
 }
 
-// Whether the bytes from one place up to another are all 0.
-fn blank(m: &[u8], from: usize, to: usize) -> bool
-    requires { ⌜ (from ≤ to) × (to ≤ length (now m)) ⌝ }
-    ensures { λ r. ⌜ (r ≡ true → OnesBetween (now (m .entry)) from to 0) ⌝ }
+// Whether the bytes from one place up to another are all 0; one past the end counts as 0.
+pub fn blank(m: &[u8], from: usize, to: usize) -> bool
+    ensures { λ r. ⌜ Tells r (Blank (now (m .entry)) from to) ⌝ }
 {
+    let end = at_most(to, m.len());
     let mut all: u8 = 0;
     let mut i = from;
-    while i < to {
+    while i < end {
         all = all | m[i];
         i += 1;
     }

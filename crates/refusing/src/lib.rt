@@ -3,7 +3,7 @@ ghost use mathlib.Core.List.{List·Memᴰ};
 ghost use mathlib.Core.Path.{_≡_};
 ghost use lib.ListN.{length};
 ghost use Rattle.table.specs.Fields.{lettersOf, tableOf};
-ghost use Rattle.table.specs.Inside.Right.{Tells};
+ghost use Rattle.bits.specs.Tells.{Tells};
 ghost use Rattle.refusing.specs.Asking.{Asks};
 ghost use Rattle.refusing.specs.Inside.Letters.{FirstOther};
 

@@ -8,5 +8,4 @@ pub mod Places
 pub mod Reading
 pub mod Refusal
 pub mod RowCode
-pub mod Telling
 pub mod Showing

@@ -136,7 +136,7 @@ viaFrom true p next = next
 viaFrom false p next = p
 
 abbrev pub viaNext : Bool → ℕ → ℕ
-viaNext true next = suc next
+viaNext true next = next + 1
 viaNext false next = next
 
 pub record Leads (taking : Bool) (to : ℕ) (place : Place) (course : Course) : Type 0 where

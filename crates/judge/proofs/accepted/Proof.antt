@@ -5,7 +5,7 @@ use native.Mathlib.Omega.{arith}
 use Rattle.table.specs.Fields.{tableOf}
 use Rattle.judge.specs.Inside.Inner.{AcceptsIn}
 use mathlib.Core.Path.{refl}
-use Rattle.table.proofs.Telling.{tells-yes, tells-no}
+use Rattle.bits.proofs.Telling.{tells-yes, tells-no}
 use Rattle.judge.proofs.Answers.{accepted-in, accepted-nowhere}
 use Rattle.judge.proofs.accepted.Statement.{statement}
 use Rattle.judge.proofs.accepted.Tie as tie

@@ -7,6 +7,7 @@ use mathlib.Core.List.{List}
 use lib.ListN.{length, getD}
 use Rattle.bits.specs.Bit.{bit}
 use Rattle.bits.specs.Size.{Size}
+use Rattle.ones.specs.Blank.{Blank}
 use Rattle.table.specs.Table.{Row, Table, Accepting}
 use Rattle.table.specs.Refusal.{First, refusal}
 use Rattle.table.specs.Fields.{rowFrom, tableOf}
@@ -22,16 +23,12 @@ use Rattle.judgement.specs.Judge.{reasons, Judgeable}
 use Rattle.judge.specs.declared.pending.Try.{Try}
 use Rattle.judge.specs.declared.pending.Try.the-variants.{Found, Stale, Nothing}
 
--- the bytes from one place up to another are all 0
-pub record Quiet (m : List ℕ) (from to : ℕ) : Type 0 where
-  pub zero : (k : ℕ) → from ≤ k → k < to → getD m k 0 ≡ 0
-
 -- the first bit that is set in the bytes from one place up to another, or the bit after them
 pub record FirstSet (m : List ℕ) (from to r : ℕ) : Type 0 where
   pub low : from * 8 ≤ r
   pub high : r ≤ to * 8
   pub set : r < to * 8 → bit m r ≡ 1
-  pub none : to * 8 ≤ r → Quiet m from to
+  pub none : to * 8 ≤ r → Blank m from to
 
 -- a guess at a pending situation: one, or the number of situations
 pub record Guess (m : List ℕ) (r : ℕ) : Type 0 where

@@ -1,24 +1,25 @@
--- Where what was gathered is 0, no bit of the bytes passed is set. The measure is what is left of them. Assumes nothing.
-use Prim.Native.Nat.{_≤_, _-_}
+-- What was gathered is 0 exactly if the bytes passed are. The measure is what is left of them. Assumes nothing.
+use Prim.Native.Nat.{_≤_, _<_, _-_}
 use native.Mathlib.Omega.{arith}
-use mathlib.Core.Path.{_≡_}
-use borrow.Author.Tests.{eqb-true}
-use Rattle.ones.specs.Inside.Between.{OnesBetween}
-use Rattle.ones.proofs.Counting.{ones-none, ones-to, blank-more}
+use borrow.Author.Needs.{needs}
+use Rattle.ones.proofs.Blanks.{Gathered, gathered-none, gathered-more, gathered-all}
 use Rattle.ones.proofs.blank.Statement.{statement}
 use Rattle.ones.proofs.blank.Tie as tie
 
 abbrev Inv-loop : tie.InvT-loop
-Inv-loop m from to all₀ i₀ all i = (from ≤ i) × (i ≤ to) × (all ≡ 0 → OnesBetween m from i 0)
+Inv-loop m from to end all₀ i₀ all i = (from ≤ i) × (from < i → i ≤ end) × Gathered m from i all
 
 abbrev μ-loop : tie.MeasureT-loop
-μ-loop m from to all₀ i₀ all i = to - i
+μ-loop m from to end all₀ i₀ all i = end - i
+
+at-most-requires : tie.Need-at-most-requires Inv-loop μ-loop
+at-most-requires c κs = search needs
 
 loop-holds : tie.Need-loop-holds Inv-loop μ-loop
-loop-holds c = (omega arith, omega arith, λ e. ones-none _ _)
+loop-holds c = (omega arith, λ more. absurd (omega arith), gathered-none _ _)
 
 shared-slice-read-all : tie.Need-shared-slice-read-all Inv-loop μ-loop
-shared-slice-read-all c = omega arith
+shared-slice-read-all c = omega (arith, c .before .before .before .at-most .ensures)
 
 add-i : tie.Need-add-i Inv-loop μ-loop
 add-i c = omega arith
@@ -29,10 +30,24 @@ loop-less c = omega arith
 loop-again : tie.Need-loop-again Inv-loop μ-loop
 loop-again c =
     let l = c .before .before .loop in
-    (omega arith, omega arith, λ e. blank-more (l .all) (c .shared-slice-known .given (l .i) .fits) (l .inv .2) e)
+    (omega (arith, l .inv .0), λ more. omega arith, gathered-more _ _ _ _ (l .inv .0) (l .inv .2))
 
 returns : tie.Need-returns Inv-loop μ-loop
-returns c = λ e. ones-to (omega arith) (c .before .loop .inv .2 (eqb-true _ _ e))
+returns c =
+    let l = c .before .loop in
+    let end = c .before .before .at-most .ensures in
+    gathered-all _ _ _ _ _ (omega (arith, end)) (λ more. omega (arith, end, l .inv .1 more)) (l .inv .2)
 
 pub blank-spec : {M : Type 1} → statement M
-blank-spec = tie.close (tie.spec Inv-loop μ-loop loop-holds shared-slice-read-all add-i loop-less loop-again returns)
+blank-spec =
+    tie.close
+    (tie.spec
+    Inv-loop
+    μ-loop
+    at-most-requires
+    loop-holds
+    shared-slice-read-all
+    add-i
+    loop-less
+    loop-again
+    returns)

@@ -3,8 +3,9 @@ use Prim.Native.Nat.{_≤_, _+_, _-_}
 use native.Mathlib.Omega.{arith}
 use lib.ListN.{getD}
 use lib.Count.{ones}
+use borrow.Author.Needs.{needs}
 use Rattle.ones.specs.Inside.Between.{OnesBetween}
-use Rattle.ones.proofs.Counting.{ones-none, ones-more, ones-at-most, ones-to}
+use Rattle.ones.proofs.Counting.{ones-none, ones-more, ones-at-most, ones-to, ones-blank}
 use Rattle.ones.proofs.ones_between.Statement.{statement}
 use Rattle.ones.proofs.ones_between.Tie as tie
 
@@ -15,10 +16,10 @@ abbrev μ-loop : tie.MeasureT-loop
 μ-loop m from to sum₀ i₀ sum i = to - i
 
 blank-requires : tie.Need-blank-requires Inv-loop μ-loop
-blank-requires c κs = (omega arith, omega arith)
+blank-requires c κs = search needs
 
 returns : tie.Need-returns Inv-loop μ-loop
-returns c = c .before .blank .ensures (c .if1 .taken)
+returns c = ones-blank (omega arith) (c .before .blank .ensures .holds (c .if1 .taken))
 
 loop-holds : tie.Need-loop-holds Inv-loop μ-loop
 loop-holds c = (omega arith, omega arith, ones-none _ _)

@@ -5,7 +5,7 @@ use Prim.Native.Nat.{ℕ, _≤_, _<_, _-_}
 use native.Mathlib.Omega.{arith}
 use mathlib.Core.Path.{_≡_, refl, _∙_}
 use Rattle.table.specs.Fields.{letterOf}
-use Rattle.table.proofs.Telling.{tells-yes, tells-no}
+use Rattle.bits.proofs.Telling.{tells-yes, tells-no}
 use Rattle.refusing.proofs.Letters.{letter-found, letter-nowhere}
 use Rattle.refusing.proofs.in_alphabet.Statement.{statement}
 use Rattle.refusing.proofs.in_alphabet.Tie as tie

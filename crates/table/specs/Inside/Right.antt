@@ -1,8 +1,6 @@
--- Which parts of any bytes are right, as the checker says it; and what it is for a test to tell whether something holds. No public
--- promise reaches it.
+-- Which parts of any bytes are right, as the checker says it. No public promise reaches it.
 use Prim.Native.Nat.{ℕ, _+_, _≤_, _<_}
 use mathlib.Core.Path.{_≡_}
-use mathlib.Core.Bool.{Bool, true, false}
 use mathlib.Core.List.{List}
 use lib.ListN.{length}
 use lib.Dec.{T}
@@ -10,11 +8,6 @@ use Rattle.bits.specs.Byte.{isLetter}
 use Rattle.table.specs.Form.{editionPlace, alphabetTag, decrOnZeroTag, decrOnZeroPlace, statesTag, statesPlace, acceptingTag, acceptingBytes, rowsTag, bytesOf}
 use Rattle.table.specs.Image.{edition}
 use Rattle.table.specs.Fields.{byteAt, twoAt, lettersOf, letterOf, widthOf, rowPlace, rowCount, tableOf}
-
--- a test's result tells whether something holds
-pub record Tells (result : Bool) (P : Type 0) : Type 0 where
-  pub holds : result ≡ true → P
-  pub fails : result ≡ false → ¬ P
 
 -- a field with this tag and this length starts here
 pub record FieldAt (image : List ℕ) (at t n : ℕ) : Type 0 where

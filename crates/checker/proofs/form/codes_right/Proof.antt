@@ -3,7 +3,7 @@ use native.Mathlib.Omega.{arith}
 use borrow.Author.Tests.{lt-leb, leb-true, leb-false}
 use mathlib.Core.Path.{refl}
 use native.Mathlib.Nat.{not-le-of-lt}
-use Rattle.table.proofs.Telling.{refuted, kept, tells-no}
+use Rattle.bits.proofs.Telling.{refuted, kept, tells-no}
 use borrow.Author.Needs.{needs}
 use Rattle.checker.proofs.form.codes_right.Statement.{statement}
 use Rattle.checker.proofs.form.codes_right.Tie as tie

@@ -1,7 +1,7 @@
 -- Its tag, and then its length. Assumes that the next place fits a number.
 use borrow.Author.Tests.{ne-eqb, eqb-true, eqb-false}
 use mathlib.Core.Path.{sym, _∙_}
-use Rattle.table.proofs.Telling.{tells-no}
+use Rattle.bits.proofs.Telling.{tells-no}
 use borrow.Author.Needs.{needs}
 use Rattle.checker.proofs.form.field_at.Statement.{statement}
 use Rattle.checker.proofs.form.field_at.Tie as tie

@@ -5,7 +5,7 @@ use mathlib.Core.Path.{_≡_, refl, sym, _∙_}
 use borrow.Author.Count.{below-none, below-more}
 use borrow.Author.Needs.{needs}
 use Rattle.table.specs.Fields.{letterOf}
-use Rattle.table.proofs.Telling.{tells-no, tells-all}
+use Rattle.bits.proofs.Telling.{tells-no, tells-all}
 use Rattle.checker.proofs.form.fresh.Statement.{statement}
 use Rattle.checker.proofs.form.fresh.Tie as tie
 

@@ -2,7 +2,7 @@
 use native.Mathlib.Omega.{arith}
 use borrow.Author.Tests.{lt-leb, leb-true, leb-false}
 use mathlib.Core.Path.{refl, sym, _∙_}
-use Rattle.table.proofs.Telling.{refuted, kept, tells-no}
+use Rattle.bits.proofs.Telling.{refuted, kept, tells-no}
 use borrow.Author.Needs.{needs}
 use Rattle.checker.proofs.form.head_right.Statement.{statement}
 use Rattle.checker.proofs.form.head_right.Tie as tie

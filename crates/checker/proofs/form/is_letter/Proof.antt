@@ -1,6 +1,6 @@
 -- The ranges of the three kinds of letters. Assumes nothing.
 use native.Mathlib.Omega.{arith}
-use Rattle.table.proofs.Telling.{range-inside, range-below, range-above}
+use Rattle.bits.proofs.Telling.{range-inside, range-below, range-above}
 use Rattle.checker.proofs.form.is_letter.Statement.{statement}
 use Rattle.checker.proofs.form.is_letter.Tie as tie
 

@@ -1,7 +1,7 @@
 -- A letter, and a new one. Assumes nothing.
 use mathlib.Core.Path.{ap, _∙_}
 use Rattle.bits.specs.Byte.{isLetter}
-use Rattle.table.proofs.Telling.{tells-as, tells-no, tells-test}
+use Rattle.bits.proofs.Telling.{tells-as, tells-no, tells-test}
 use borrow.Author.Needs.{needs}
 use Rattle.checker.proofs.form.letter_right.Statement.{statement}
 use Rattle.checker.proofs.form.letter_right.Tie as tie

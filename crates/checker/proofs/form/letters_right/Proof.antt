@@ -4,7 +4,7 @@ use native.Mathlib.Omega.{arith}
 use borrow.Author.Count.{below-none, below-more}
 use borrow.Author.Needs.{needs}
 use Rattle.table.specs.Inside.Right.{LetterRight}
-use Rattle.table.proofs.Telling.{refuted, kept, tells-all}
+use Rattle.bits.proofs.Telling.{refuted, kept, tells-all}
 use Rattle.checker.proofs.form.letters_right.Statement.{statement}
 use Rattle.checker.proofs.form.letters_right.Tie as tie
 

@@ -2,7 +2,7 @@
 use native.Mathlib.Omega.{arith}
 use borrow.Author.Tests.{lt-leb, leb-true, leb-false}
 use mathlib.Core.Path.{refl}
-use Rattle.table.proofs.Telling.{refuted, kept, tells-no}
+use Rattle.bits.proofs.Telling.{refuted, kept, tells-no}
 use Rattle.table.specs.Fields.{tableOf}
 use borrow.Author.Needs.{needs}
 use Rattle.checker.proofs.form.middle_right.Statement.{statement}

@@ -7,7 +7,7 @@ use borrow.Author.Count.{below-more}
 use borrow.Author.Needs.{needs}
 use Rattle.bits.specs.Bit.{bit}
 use Rattle.table.specs.Fields.{tableOf}
-use Rattle.table.proofs.Telling.{tells-yes, tells-no}
+use Rattle.bits.proofs.Telling.{tells-yes, tells-no}
 use Rattle.checker.proofs.Decided.{others-all}
 use Rattle.checker.proofs.form.no_other_bit.Statement.{statement}
 use Rattle.checker.proofs.form.no_other_bit.Tie as tie

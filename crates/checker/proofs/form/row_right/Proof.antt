@@ -1,6 +1,6 @@
 -- Its states and its codes. Assumes nothing.
 use Rattle.checker.proofs.Decided.{row-states, codes-tell}
-use Rattle.table.proofs.Telling.{tells-no}
+use Rattle.bits.proofs.Telling.{tells-no}
 use borrow.Author.Needs.{needs}
 use Rattle.checker.proofs.form.row_right.Statement.{statement}
 use Rattle.checker.proofs.form.row_right.Tie as tie

@@ -5,7 +5,7 @@ use borrow.Author.Count.{below-none, below-more}
 use borrow.Author.Needs.{needs}
 use Rattle.table.specs.Fields.{rowOf, tableOf}
 use Rattle.table.specs.WellFormed.{RowInRange}
-use Rattle.table.proofs.Telling.{refuted, kept, tells-all}
+use Rattle.bits.proofs.Telling.{refuted, kept, tells-all}
 use Rattle.checker.proofs.form.rows_right.Statement.{statement}
 use Rattle.checker.proofs.form.rows_right.Tie as tie
 

@@ -3,7 +3,7 @@ use native.Mathlib.Omega.{arith}
 use borrow.Author.Tests.{eq-eqb, ltb-true, ltb-false}
 use mathlib.Core.Path.{refl, sym, ap, _∙_}
 use mathlib.Core.Bool.{not}
-use Rattle.table.proofs.Telling.{tells-no}
+use Rattle.bits.proofs.Telling.{tells-no}
 use borrow.Author.Needs.{needs}
 use Rattle.checker.proofs.form.states_right.Statement.{statement}
 use Rattle.checker.proofs.form.states_right.Tie as tie

@@ -4,7 +4,7 @@ use borrow.Author.Tests.{lt-leb, leb-true, leb-false}
 use mathlib.Core.Path.{refl}
 use mathlib.Core.Logic.{inl, inr, ⊎-elim}
 use native.Mathlib.Nat.{not-le-of-lt}
-use Rattle.table.proofs.Telling.{tells-yes, tells-no}
+use Rattle.bits.proofs.Telling.{tells-yes, tells-no}
 use Rattle.checker.proofs.form.symbol_right.Statement.{statement}
 use Rattle.checker.proofs.form.symbol_right.Tie as tie
 

@@ -2,7 +2,7 @@
 use native.Mathlib.Omega.{arith}
 use borrow.Author.Tests.{eqb-true, eqb-false}
 use mathlib.Core.Path.{refl}
-use Rattle.table.proofs.Telling.{refuted, kept, tells-no}
+use Rattle.bits.proofs.Telling.{refuted, kept, tells-no}
 use Rattle.checker.proofs.Framing.{tail-end, end-low, end-tail}
 use borrow.Author.Needs.{needs}
 use Rattle.checker.proofs.form.tail_right.Statement.{statement}

@@ -1,5 +1,5 @@
 -- Each part that is asked follows from the image being well formed, and all together make it so. Assumes nothing.
-use Rattle.table.proofs.Telling.{refuted, kept, tells-as, tells-no}
+use Rattle.bits.proofs.Telling.{refuted, kept, tells-as, tells-no}
 use native.Mathlib.Omega.{arith}
 use Rattle.table.specs.Fields.{tableOf}
 use Rattle.table.proofs.Encoded.{image-head, image-middle, image-tail}

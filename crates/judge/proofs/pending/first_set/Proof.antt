@@ -2,28 +2,30 @@
 use mathlib.Core.Path.{refl}
 use Prim.Native.Nat.{_≤_, _-_}
 use native.Mathlib.Omega.{arith}
-use Rattle.judge.specs.Inside.Inner.{Quiet}
-use Rattle.judge.proofs.Bytes.{quiet-none, quiet-more, first-here, first-nowhere}
+use borrow.Author.Needs.{needs}
+use Rattle.ones.specs.Blank.{Blank}
+use Rattle.ones.proofs.Blanks.{blank-none, blank-more}
+use Rattle.judge.proofs.Bytes.{first-here, first-nowhere}
 use Rattle.judge.proofs.pending.first_set.Statement.{statement}
 use Rattle.judge.proofs.pending.first_set.Tie as tie
 
 abbrev Inv-loop : tie.InvT-loop
-Inv-loop marks from to at₀ at = (from ≤ at) × (at ≤ to) × Quiet marks from at
+Inv-loop marks from to at₀ at = (from ≤ at) × (at ≤ to) × Blank marks from at
 
 abbrev μ-loop : tie.MeasureT-loop
 μ-loop marks from to at₀ at = to - at
 
-quiet-requires : tie.Need-quiet-requires Inv-loop μ-loop
-quiet-requires c κs = omega arith
+blank-requires : tie.Need-blank-requires Inv-loop μ-loop
+blank-requires c κs = search needs
 
 mul-result : tie.Need-mul-result Inv-loop μ-loop
 mul-result c = omega arith
 
 returns : tie.Need-returns Inv-loop μ-loop
-returns c = first-nowhere _ _ _ _ (omega arith) refl (c .before .quiet .ensures .holds (c .if1 .taken))
+returns c = first-nowhere _ _ _ _ (omega arith) refl (c .before .blank .ensures .holds (c .if1 .taken))
 
 loop-holds : tie.Need-loop-holds Inv-loop μ-loop
-loop-holds c = (omega arith, omega arith, quiet-none _ _)
+loop-holds c = (omega arith, omega arith, blank-none _ _ _ (omega arith))
 
 shared-slice-read-b : tie.Need-shared-slice-read-b Inv-loop μ-loop
 shared-slice-read-b c = omega arith
@@ -49,7 +51,7 @@ loop-less : tie.Need-loop-less Inv-loop μ-loop
 loop-less c = omega arith
 
 loop-again : tie.Need-loop-again Inv-loop μ-loop
-loop-again c = (omega arith, omega arith, quiet-more _ _ _ (c .before .before .before .loop .inv .2) (omega arith))
+loop-again c = (omega arith, omega arith, blank-more _ _ _ (c .before .before .before .loop .inv .2) (omega arith))
 
 mul-result-3 : tie.Need-mul-result-3 Inv-loop μ-loop
 mul-result-3 c = omega arith
@@ -63,7 +65,7 @@ first-set-spec =
     (tie.spec
     Inv-loop
     μ-loop
-    quiet-requires
+    blank-requires
     mul-result
     returns
     loop-holds

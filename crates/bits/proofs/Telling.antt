@@ -5,8 +5,8 @@ use mathlib.Core.Path.{_≡_, refl, sym, subst, _∙_}
 use mathlib.Core.Bool.{Bool, true, false, not, true≢false}
 use borrow.Author.Tests.{not-true, not-false, le-leb, lt-leb}
 use lib.Dec.{T}
 use Rattle.bits.specs.Byte.{between}
-use Rattle.table.specs.Inside.Right.{Tells}
+use Rattle.bits.specs.Tells.{Tells}
 
 -- a result that is known
 pub tells-yes : {r : Bool} {P : Type 0} → r ≡ true → P → Tells r P

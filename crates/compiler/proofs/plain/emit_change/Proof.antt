@@ -13,8 +13,8 @@ use Rattle.compiler.proofs.Stepping.{
   down-counted,
 }
 use borrow.Author.Needs.{needs}
-use Rattle.compiler.proofs.plain.change.Statement.{statement}
-use Rattle.compiler.proofs.plain.change.Tie as tie
+use Rattle.compiler.proofs.plain.emit_change.Statement.{statement}
+use Rattle.compiler.proofs.plain.emit_change.Tie as tie
 
 see-requires : tie.Need-see-requires
 see-requires c κs = search needs
@@ -171,8 +171,8 @@ returns-4 c =
       onward = step-onward d₀ (stepping-by (λ _. noMove) (λ (v : ℕ). noChange - v) _ n₀ value) steps (n₀ .onward);
     }
 
-pub change-spec : {M : Type 1} → statement M
-change-spec =
+pub emit-change-spec : {M : Type 1} → statement M
+emit-change-spec =
     tie.close
     (tie.spec
     see-requires

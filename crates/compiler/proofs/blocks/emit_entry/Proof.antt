@@ -3,8 +3,8 @@ use native.Mathlib.Omega.{arith}
 use Rattle.compiler.proofs.Emission.{ready}
 use Rattle.compiler.proofs.Nesting.{entry-asks, choice-onward, choice-room, choice-room-then, choice-emitted}
 use borrow.Author.Needs.{needs}
-use Rattle.compiler.proofs.blocks.entry.Statement.{statement}
-use Rattle.compiler.proofs.blocks.entry.Tie as tie
+use Rattle.compiler.proofs.blocks.emit_entry.Statement.{statement}
+use Rattle.compiler.proofs.blocks.emit_entry.Tie as tie
 
 see-requires : tie.Need-see-requires
 see-requires c κs = search needs
@@ -26,8 +26,8 @@ free-requires-2 c κs =
     let start = past-see .before .before .before in
     choice-room-then (past-see .see .ensures) (start .pre .doing) (past-enum-told .enum-told .given .1) (past-free .free .ensures)
 
-tested-requires : tie.Need-tested-requires
-tested-requires c κs = ready (entry-asks (c .before .before .see .ensures) (c .before .before .before .before .before .pre .doing) (c .before .match .keys2))
+emit-condition-requires : tie.Need-emit-condition-requires
+emit-condition-requires c κs = ready (entry-asks (c .before .before .see .ensures) (c .before .before .before .before .before .pre .doing) (c .before .match .keys2))
 
 same-length : tie.Need-same-length
 same-length c = search needs
@@ -54,18 +54,18 @@ returns-2 : tie.Need-returns-2
 returns-2 c =
     let sees = c .before .before .before .before .before .see .ensures in
     let other = c .before .before .before .before .match .keys2 in
-    let asked = c .before .before .tested .ensures in
+    let asked = c .before .before .emit-condition .ensures in
     record { emits = λ d. asked .emits (entry-asks sees d other); onward = asked .onward }
 
-pub entry-spec : {M : Type 1} → statement M
-entry-spec =
+pub emit-entry-spec : {M : Type 1} → statement M
+emit-entry-spec =
     tie.close
     (tie.spec
     see-requires
     enum-told
     free-requires
     free-requires-2
-    tested-requires
+    emit-condition-requires
     same-length
     returns
     same-length-2

@@ -2,14 +2,14 @@
 use Rattle.compiler.proofs.Emission.{at-held}
 use Rattle.compiler.proofs.Stating.{accept-few, accept-emitted, accept-onward}
 use borrow.Author.Needs.{needs}
-use Rattle.compiler.proofs.blocks.accepted.Statement.{statement}
-use Rattle.compiler.proofs.blocks.accepted.Tie as tie
+use Rattle.compiler.proofs.blocks.emit_accept.Statement.{statement}
+use Rattle.compiler.proofs.blocks.emit_accept.Tie as tie
 
 accept-requires : tie.Need-accept-requires
 accept-requires c κs = at-held (c .before .before .before .pre .doing .stands)
 
-stop-requires : tie.Need-stop-requires
-stop-requires c κs =
+emit-stop-requires : tie.Need-emit-stop-requires
+emit-stop-requires c κs =
     let start = c .before .before .before .before .before .before in
     accept-few (start .pre .doing)
 
@@ -21,11 +21,11 @@ returns c =
     let past-accept = c .before .before .before in
     let start = past-accept .before .before .before .before in
     let marks = past-accept .accept .ensures in
-    let st = c .stop .ensures in
+    let st = c .emit-stop .ensures in
     record {
       emits = λ d. accept-emitted d marks st;
       onward = accept-onward (start .pre .doing) st;
     }
 
-pub accepted-spec : {M : Type 1} → statement M
-accepted-spec = tie.close (tie.spec accept-requires stop-requires same-length returns)
+pub emit-accept-spec : {M : Type 1} → statement M
+emit-accept-spec = tie.close (tie.spec accept-requires emit-stop-requires same-length returns)

@@ -3,23 +3,23 @@ use native.Mathlib.Omega.{arith}
 use Rattle.compiler.proofs.Emission.{ready, past-onward}
 use Rattle.compiler.proofs.Walking.{holding-doing, failing-doing, tests-onward, tests-emitted}
 use borrow.Author.Needs.{needs}
-use Rattle.compiler.proofs.walk.tested.Statement.{statement}
-use Rattle.compiler.proofs.walk.tested.Tie as tie
+use Rattle.compiler.proofs.walk.emit_condition.Statement.{statement}
+use Rattle.compiler.proofs.walk.emit_condition.Tie as tie
 
 past-requires : tie.Need-past-requires
 past-requires c κs = search needs
 
-chain-requires : tie.Need-chain-requires
-chain-requires c κs = ready (holding-doing (c .before .past .ensures) (c .before .before .before .before .pre .doing))
+emit-chain-requires : tie.Need-emit-chain-requires
+emit-chain-requires c κs = ready (holding-doing (c .before .past .ensures) (c .before .before .before .before .pre .doing))
 
-chain-requires-2 : tie.Need-chain-requires-2
-chain-requires-2 c κs =
-    let past-chain = c .before .before .before in
-    let past-past = past-chain .before .before in
+emit-chain-requires-2 : tie.Need-emit-chain-requires-2
+emit-chain-requires-2 c κs =
+    let past-emit-chain = c .before .before .before in
+    let past-past = past-emit-chain .before .before in
     let start = past-past .before .before .before in
     let enters = past-past .past .ensures in
     let d = start .pre .doing in
-    ready (failing-doing enters d (past-chain .chain .ensures .emits (holding-doing enters d)))
+    ready (failing-doing enters d (past-emit-chain .emit-chain .ensures .emits (holding-doing enters d)))
 
 past-requires-2 : tie.Need-past-requires-2
 past-requires-2 c κs = search needs
@@ -30,12 +30,12 @@ same-length c = search needs
 returns : tie.Need-returns
 returns c =
     let past-chain2 = c .before .before .before in
-    let past-chain = past-chain2 .before .before .before .before in
-    let past-past = past-chain .before .before in
+    let past-emit-chain = past-chain2 .before .before .before .before in
+    let past-past = past-emit-chain .before .before in
     let start = past-past .before .before .before in
     let enters = past-past .past .ensures in
-    let holding = past-chain .chain .ensures in
-    let failing = past-chain2 .chain2 .ensures in
+    let holding = past-emit-chain .emit-chain .ensures in
+    let failing = past-chain2 .emit-chain2 .ensures in
     let leaves = c .past2 .ensures in
     let d₀ = start .pre .doing in
     record {
@@ -49,7 +49,7 @@ returns c =
           );
     }
 
-pub tested-spec : {M : Type 1} → statement M
-tested-spec =
+pub emit-condition-spec : {M : Type 1} → statement M
+emit-condition-spec =
     tie.close
-    (tie.spec past-requires chain-requires chain-requires-2 past-requires-2 same-length returns)
+    (tie.spec past-requires emit-chain-requires emit-chain-requires-2 past-requires-2 same-length returns)

@@ -2,8 +2,8 @@
 use native.Mathlib.Nat.{le-refl}
 use Rattle.compiler.proofs.Walking.{atom-states, atom-not-refused, atom-room, atom-onward, atom-emits}
 use borrow.Author.Needs.{needs}
-use Rattle.compiler.proofs.walk.atom.Statement.{statement}
-use Rattle.compiler.proofs.walk.atom.Tie as tie
+use Rattle.compiler.proofs.walk.emit_atom.Statement.{statement}
+use Rattle.compiler.proofs.walk.emit_atom.Tie as tie
 
 atom-at-requires : tie.Need-atom-at-requires
 atom-at-requires c κs = search needs
@@ -40,8 +40,8 @@ returns-2 c =
       onward = atom-onward (start .pre .doing) reads _ _ is;
     }
 
-pub atom-spec : {M : Type 1} → statement M
-atom-spec =
+pub emit-atom-spec : {M : Type 1} → statement M
+emit-atom-spec =
     tie.close
     (tie.spec
     atom-at-requires
