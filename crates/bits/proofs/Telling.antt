@@ -15,6 +15,13 @@ tells-yes known p = record { holds = λ e. p; fails = λ e. absurd (true≢false
 pub tells-no : {r : Bool} {P : Type 0} → r ≡ false → ¬ P → Tells r P
 tells-no known n = record { holds = λ e. absurd (true≢false (sym e ∙ known)); fails = λ e. n }
 
+-- and there is no second result
+pub tells-once : {a b : Bool} {P : Type 0} → Tells a P → Tells b P → a ≡ b
+tells-once {true} {true} one other = refl
+tells-once {true} {false} one other = absurd (other .fails refl (one .holds refl))
+tells-once {false} {true} one other = absurd (one .fails refl (other .holds refl))
+tells-once {false} {false} one other = refl
+
 -- what tells the one tells the other, if each follows from the other
 pub tells-as : {r : Bool} {P Q : Type 0} → Tells r P → (P → Q) → (Q → P) → Tells r Q
 tells-as told there back = record { holds = λ e. there (told .holds e); fails = λ e q. told .fails e (back q) }

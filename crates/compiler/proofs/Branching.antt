@@ -1,7 +1,6 @@
 -- A branch and its arms: what each call has to emit, and what is emitted behind it.
-use Prim.Native.Nat.{ℕ, suc, _+_, _≤_, _<_}
+use Prim.Native.Nat.{ℕ, _+_, _≤_, _<_}
 use native.Mathlib.Omega.{arith}
-use native.Mathlib.Numerals.{add-one}
 use mathlib.Core.Path.{_≡_, refl, sym, ap, subst}
 use mathlib.Core.List.{List, [], _∷_, _++_}
 use lib.ListN.{length}
@@ -161,10 +160,10 @@ module _ {text out : List ℕ} {place : Place} {to : ℕ} {h : Sheet} {accepting
   )
 
   module _ {middle : List ℕ} {row : ℕ} (writes : Writes out middle (place .row) row (λ _. free (place .state) (place .next) ∷ [])) where
-    pub arm-doing : Doing (BodyTask to) text middle (record { at = place .at; state = place .next; next = place .next + 1; row = row }) h (accepting ++ []) (rows ++ (free (place .state) (place .next) ∷ [])) (place .next) (suc (place .next)) ts (arms-here .behind) (arms-here .arm)
+    pub arm-doing : Doing (BodyTask to) text middle (record { at = place .at; state = place .next; next = place .next + 1; row = row }) h (accepting ++ []) (rows ++ (free (place .state) (place .next) ∷ [])) (place .next) (place .next + 1) ts (arms-here .behind) (arms-here .arm)
     arm-doing =
         record {
-          stands = at-anew (free-emitted (d .stands) (place .next) row-fits writes .stands) refl (add-one (place .next)) (omega arith);
+          stands = at-anew (free-emitted (d .stands) (place .next) row-fits writes .stands) refl refl (omega arith);
           is = arms-here .block;
           states = arms-states;
           fits = fits-then rows (free (place .state) (place .next) ∷ []) (arms-here .arm .rows) arms-fits;
@@ -209,7 +208,7 @@ module _ {text out : List ℕ} {place : Place} {to : ℕ} {h : Sheet} {accepting
 branch-arms : {alphabet : List ℕ} {p next k : ℕ} {ts us : Ts} {a : Statement} → Branch k ts a us → Follows us → StatementWithin alphabet a → ArmsTask next alphabet p (next + 1) ts us (statementPart alphabet a p next)
 unfolding statementPart armsPart StatementWithin ArmsWithin
 branch-arms {alphabet} {p} {next} {ts} {us} (arms {o = o} {b = b} {a = a} d e) follows within =
-    let same : suc (next + 1) ≡ next + 2 = omega arith in
+    let same : next + 1 + 1 ≡ next + 2 = omega arith in
     subst (λ (n : ℕ). ArmsTask next alphabet p (next + 1) ts us
     (let first : Part = armPart (statementsPart alphabet b (next + 1) n) p (next + 1) next in andThen first (armsPart alphabet a p next (first .next))))
     same

@@ -1,5 +1,5 @@
 -- Which statement it is, by its first word, and what is left of a block behind it.
-use Prim.Native.Nat.{ℕ, suc, _+_, _≤_, _<_}
+use Prim.Native.Nat.{ℕ, _+_, _≤_, _<_}
 use native.Mathlib.Omega.{arith}
 use mathlib.Core.Path.{_≡_, refl, sym, _∙_, ap, subst, subst₂}
 use mathlib.Core.Bool.{not}
@@ -50,7 +50,7 @@ module _ {text before : List ℕ} {place : Place} {h : Sheet} {accepting : List 
           here = st .passes .behind _ (stands .here) (omega arith) .here;
           filled = subst₂ (λ (xs : List Row) (n : ℕ). Filled h (accepting ++ states) xs after n) (sym (append-nil rows)) (sym (st .row)) filled;
           state = st .state ∙ stands .takes;
-          takes = st .takes ∙ ap suc (stands .takes);
+          takes = st .takes ∙ ap (λ (n : ℕ). n + 1) (stands .takes);
           taken = omega arith;
         };
       }

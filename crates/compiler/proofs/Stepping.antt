@@ -1,5 +1,5 @@
 -- Plain statements: the tokens of each, the row that it has, and where it leaves the emitter.
-use Prim.Native.Nat.{ℕ, suc, _+_, _-_, _≤_, _<_}
+use Prim.Native.Nat.{ℕ, _+_, _-_, _≤_, _<_}
 use native.Mathlib.Omega.{arith}
 use mathlib.Core.Path.{_≡_, refl, sym, _∙_, ap, subst}
 use mathlib.Core.List.{List, [], _∷_, _++_, append-nil}
@@ -47,7 +47,9 @@ module _ {task : Task} {text out : List ℕ} {place : Place} {h : Sheet} {accept
     (d : Doing task text out place h accepting rows p next ts us part)
     {from many motion change : ℕ} (st : Stepping text from many us part p next motion change) where
   few : next < 128
-  few = subst (λ (x : Part). x .next ≤ 128) (st .is) (d .states)
+  few =
+      let most : next + 1 ≤ 128 = subst (λ (x : Part). x .next ≤ 128) (st .is) (d .states) in
+      omega (arith, most)
 
   fits : length rows + 1 ≤ h .count
   fits = subst (λ (x : Part). length rows + length (x .rows) ≤ h .count) (st .is) (d .fits)
@@ -72,7 +74,7 @@ module _ {task : Task} {text out : List ℕ} {place : Place} {h : Sheet} {accept
               subst (λ (a : List ℕ). Filled h a (rows ++ (stepRow motion change p next ∷ [])) after (r .row)) (sym (append-nil accepting))
               (at-rows (d .stands) (λ _. stepRow motion change (place .state) (place .next) ∷ []) _ row fits (steps .writes));
           state = steps .state ∙ d .stands .takes;
-          takes = steps .takes ∙ ap suc (d .stands .takes);
+          takes = steps .takes ∙ ap (λ (n : ℕ). n + 1) (d .stands .takes);
           taken = omega arith;
         };
       })

@@ -1,7 +1,6 @@
 -- The condition walker: an atom, what an operator joins, and a condition both ways.
 use Prim.Native.Nat.{ℕ, _+_, _≤_, _<_}
 use native.Mathlib.Omega.{arith}
-use native.Mathlib.Numerals.{add-one}
 use mathlib.Core.Path.{_≡_, refl, sym, _∙_, ap, subst, subst₂}
 use mathlib.Core.Bool.{Bool, true, false, not}
 use mathlib.Core.List.{List, [], _∷_, _++_, append-nil, append-assoc}
@@ -205,7 +204,7 @@ two-sides sought {to} {sign} {alphabet} {p} {next} (walks {us = us} {c = c} d cl
     }
 
 via-taken : (taking : Bool) (p next : ℕ) {last : ℕ} → p < next → viaNext taking next ≤ last → viaFrom taking p next < last
-via-taken true p next taken grown = grown
+via-taken true p next taken grown = omega (arith, grown)
 via-taken false p next taken grown = omega arith
 
 -- the two calls of a chain with an operator
@@ -374,7 +373,7 @@ walk-few d =
 pub goes-through : (taking : Bool) (to : ℕ) (place : Place) → taking ≡ true → Leads taking to place (record { to = place .next; from = place .next; next = place .next + 1 })
 goes-through taking to place e =
     subst (λ (t : Bool). Leads t to place (record { to = place .next; from = place .next; next = place .next + 1 })) (sym e)
-    (record { first = refl; second = refl; takes = add-one (place .next) })
+    (record { first = refl; second = refl; takes = refl })
 
 -- how the measure falls: from a chain to a side of it
 abbrev pub rank : Bool → ℕ → ℕ → ℕ

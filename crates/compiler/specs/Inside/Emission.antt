@@ -1,5 +1,5 @@
 -- What the emitter's functions promise each other: which part of the table each writes for which tokens. No caller relies on any of it.
-use Prim.Native.Nat.{ℕ, suc, _+_, _≤_, _<_}
+use Prim.Native.Nat.{ℕ, _+_, _≤_, _<_}
 use mathlib.Core.Path.{_≡_}
 use mathlib.Core.Bool.{Bool, true, false, not}
 use mathlib.Core.List.{List, [], _∷_, _++_}
@@ -188,14 +188,14 @@ stepRow motion change p q =
 pub record WritesStep (text before after : List ℕ) (place : Place) (from many motion change : ℕ) (r : Place) : Type 0 where
   pub passes : GoesPast text from many (r .at)
   pub state : r .state ≡ place .next
-  pub takes : r .next ≡ suc (place .next)
+  pub takes : r .next ≡ place .next + 1
   pub writes : Writes before after (place .row) (r .row) (λ _. stepRow motion change (place .state) (place .next) ∷ [])
 
 -- a state is taken without a row
 pub record Stops (text : List ℕ) (place r : Place) : Type 0 where
   pub passes : GoesPast text (place .at) 1 (r .at)
   pub state : r .state ≡ place .next
-  pub takes : r .next ≡ suc (place .next)
+  pub takes : r .next ≡ place .next + 1
   pub row : r .row ≡ place .row
 
 -- what is left of a block

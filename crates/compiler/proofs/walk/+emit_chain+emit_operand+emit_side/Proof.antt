@@ -265,8 +265,8 @@ emit-side-same-length-2 t c = c .before .before .emit-operand .kept .1 .0
 emit-side-returns-2 : (t : ℕ) → emit-side-lts.Need-returns-2 (emit-side-calls t) (emit-side-at t) emit-side.Post
 emit-side-returns-2 t c = side-emits (c .before .before .before .before .if1 .left) (c .before .before .emit-operand .ensures)
 
-pub +emit_chain+emit_operand+emit_side-spec : {M : Type 1} → statement M
-+emit_chain+emit_operand+emit_side-spec = close μ-emit-chain μ-emit-operand μ-emit-side (λ t. emit-chain-lts.spec (emit-chain-calls t) (emit-chain-at t)
+pub +emit-chain+emit-operand+emit-side-spec : {M : Type 1} → statement M
++emit-chain+emit-operand+emit-side-spec = close μ-emit-chain μ-emit-operand μ-emit-side (λ t. emit-chain-lts.spec (emit-chain-calls t) (emit-chain-at t)
     emit-chain.Post
     (emit-chain-operator-ahead-requires t)
     (emit-chain-takes-state-requires t)
