@@ -17,10 +17,13 @@ tells-no known n = record { holds = λ e. absurd (true≢false (sym e ∙ known)
 
 -- and there is no second result
 pub tells-once : {a b : Bool} {P : Type 0} → Tells a P → Tells b P → a ≡ b
-tells-once {true} {true} one other = refl
-tells-once {true} {false} one other = absurd (other .fails refl (one .holds refl))
-tells-once {false} {true} one other = absurd (one .fails refl (other .holds refl))
-tells-once {false} {false} one other = refl
+tells-once {a} {b} {P} one other = by-cases a b one other
+  where
+    by-cases : (a b : Bool) → Tells a P → Tells b P → a ≡ b
+    by-cases true true one other = refl
+    by-cases true false one other = absurd (other .fails refl (one .holds refl))
+    by-cases false true one other = absurd (one .fails refl (other .holds refl))
+    by-cases false false one other = refl
 
 -- what tells the one tells the other, if each follows from the other
 pub tells-as : {r : Bool} {P Q : Type 0} → Tells r P → (P → Q) → (Q → P) → Tells r Q
