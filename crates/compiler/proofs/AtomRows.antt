@@ -14,9 +14,9 @@ use Rattle.table.specs.Table.{Row}
 use Rattle.table.specs.Form.{eitherCounter, leftMark, rightMark}
 use Rattle.construction.specs.Construction.{testRow, countUp, allSymbols, without, symbolRows}
 use Rattle.compiler.specs.Inside.Writing.{Sheet, Holds, Filled, Room, Writes, Counts}
-use Rattle.reader.specs.declared.atoms.Symbol.{Symbol}
-use Rattle.reader.specs.declared.atoms.Atom.{Atom as Tested}
-use Rattle.reader.specs.declared.atoms.Atom.the-variants as Tested
+use Rattle.atoms.specs.declared.Symbol.{Symbol}
+use Rattle.atoms.specs.declared.Atom.{Atom as Tested}
+use Rattle.atoms.specs.declared.Atom.the-variants as Tested
 use Rattle.compiler.specs.Inside.Atoms.{counterRows, readRows, codeOf, walkedAs, rowsOf, Codes}
 use Rattle.construction.proofs.Symbols.{length-countUp, length-symbols}
 

@@ -2,7 +2,7 @@
 use Prim.Native.Nat.{ℕ, _<_}
 use native.Mathlib.Omega.{arith}
 use mathlib.Core.Path.{_≡_, refl, sym, _∙_, ap, subst}
-use mathlib.Core.Bool.{Bool, true, false, not, _&&_, true≢false}
+use mathlib.Core.Bool.{Bool, true, false, not, _&&_}
 use mathlib.Core.List.{List, [], _∷_, cons≢nil}
 use lib.Dec.{T, leb, eqb}
 use Rattle.text.specs.Token.{word, number, letter, sign}
@@ -21,7 +21,7 @@ use Rattle.rule.specs.Limits.{valueFrom, inForm}
 use Rattle.rule.specs.Grammar as Grammar
 use Rattle.rule.specs.Grammar.{Ts, IsSymbolName, IsAtom}
 use Rattle.rule.specs.Inside.Within.{AtomWithin}
-use Rattle.reader.specs.Atom.{
+use Rattle.atoms.specs.Atom.{
   Next,
   Case,
   stands,
@@ -35,6 +35,7 @@ use Rattle.reader.specs.Atom.{
   lend,
   rend,
   aNumber,
+  zeroFound,
   zeroRead,
   ObjectSays,
   NumeralSays,
@@ -43,11 +44,11 @@ use Rattle.reader.specs.Atom.{
   AtomAt,
 }
 use Rattle.reader.specs.Inside.Atoms.{symbolOf, atomOf}
-use Rattle.reader.specs.declared.atoms.Symbol.the-variants as Symbol
-use Rattle.reader.specs.declared.atoms.Atom.{Atom}
-use Rattle.reader.specs.declared.atoms.Atom.the-variants as Atom
-use Rattle.reader.specs.declared.atoms.AtomRead.{AtomRead}
-use Rattle.reader.specs.declared.atoms.AtomRead.the-variants.{Found, Refused}
+use Rattle.atoms.specs.declared.Symbol.the-variants as Symbol
+use Rattle.atoms.specs.declared.Atom.{Atom}
+use Rattle.atoms.specs.declared.Atom.the-variants as Atom
+use Rattle.atoms.specs.declared.AtomRead.{AtomRead}
+use Rattle.atoms.specs.declared.AtomRead.the-variants.{Found, Refused}
 use Rattle.construction.specs.Construction.{symbolCode, atomRows}
 use Rattle.compiler.specs.Inside.Seeing.{Here, Behind}
 use Rattle.compiler.specs.Inside.Atoms.{readRows, codeOf, rowsOf}
@@ -228,13 +229,9 @@ zero-is-read : (equal : Bool) (digits : List ℕ) (p q : ℕ)
     → inForm digits ≡ true
     → zeroRead equal digits (record { place = p; end = q }) ≡ Found (Atom.Counter equal) q
 zero-is-read equal digits p q zero form =
-    by-cases (inForm digits && leb (valueFrom 0 digits) 0) (ap (λ (b : Bool). b && leb (valueFrom 0 digits) 0) form ∙ ap (λ (n : ℕ). leb n 0) zero)
-  where
-    by-cases : (b : Bool)
-        → b ≡ true
-        → elim b [ true ↦ Found (Atom.Counter equal) q | false ↦ Refused (record { number = 7; place = p }) ] ≡ Found (Atom.Counter equal) q
-    by-cases true e = refl
-    by-cases false e = absurd (true≢false (sym e))
+    ap
+    (zeroFound equal (record { place = p; end = q }))
+    (ap (λ (b : Bool). b && leb (valueFrom 0 digits) 0) form ∙ ap (λ (n : ℕ). leb n 0) zero)
 
 number-found : {text : List ℕ} {from p : ℕ} {l : List ℕ} {us : Ts} {r : AtomRead} (equal : Bool)
     → Next text from (λ t. NumeralSays text equal t r)

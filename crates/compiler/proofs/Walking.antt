@@ -23,12 +23,12 @@ use Rattle.rule.specs.Inside.Within.{AtomWithin, ConditionWithin}
 use Rattle.construction.specs.Construction.{Part, atomRows, Added, walk, oneAfterOther, oneOrOther, test}
 use Rattle.compiler.specs.Inside.Writing.{Sheet, Filled, Room, Writes}
 use Rattle.compiler.specs.Inside.Seeing.{Here, SeenAs, Sees, GoesPast}
-use Rattle.reader.specs.Atom.{AtomAt}
+use Rattle.atoms.specs.Atom.{AtomAt}
 use Rattle.reader.specs.Inside.Atoms.{atomOf}
-use Rattle.reader.specs.declared.atoms.Atom.{Atom as Tested}
-use Rattle.reader.specs.declared.atoms.AtomRead.{AtomRead}
-use Rattle.reader.specs.declared.atoms.AtomRead.the-variants.{Found, Refused}
-use Rattle.reader.proofs.atoms.AtomRead as read-type
+use Rattle.atoms.specs.declared.Atom.{Atom as Tested}
+use Rattle.atoms.specs.declared.AtomRead.{AtomRead}
+use Rattle.atoms.specs.declared.AtomRead.the-variants.{Found, Refused}
+use Rattle.atoms.proofs.AtomRead as read-type
 use Rattle.compiler.specs.Inside.Atoms.{rowsOf}
 use Rattle.compiler.specs.Inside.Emission.{At, Doing, Ready, Emitted, Emits, rowsPart, addedPart, AtomTask, anAtom, Closes, byParen, byOr, byAny, WalkTask, walks, joins, joined, takes, viaTo, viaFrom, viaNext, Leads, TestTask, tests}
 use Rattle.compiler.specs.Inside.Operators.{ahead, Ahead}

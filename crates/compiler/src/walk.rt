@@ -14,19 +14,19 @@ use super::ahead::operator_ahead;
 use super::see::past;
 use super::see::see;
 use super::write;
-use reader::AtomRead;
+use atoms::AtomRead;
 use table::form;
 use text::Sign;
 
 // The code of what `read` is compared with.
-fn code_of(out: &[u8], symbol: reader::Symbol) -> u8
+fn code_of(out: &[u8], symbol: atoms::Symbol) -> u8
     requires { ⌜ Held (now out) ⌝ }
     ensures { λ r. ⌜ Codes (now (out .entry)) symbol r ⌝ }
 {
     match symbol {
-        reader::Symbol::Letter { byte, place: _ } => write::letter(out, byte),
-        reader::Symbol::Lend => form::LEFT_MARK,
-        reader::Symbol::Rend => form::RIGHT_MARK,
+        atoms::Symbol::Letter { byte, place: _ } => write::letter(out, byte),
+        atoms::Symbol::Lend => form::LEFT_MARK,
+        atoms::Symbol::Rend => form::RIGHT_MARK,
     }
 }
 
@@ -105,16 +105,16 @@ fn walked_as_is(equal: bool, sign: bool) -> bool
 }
 
 // The rows of an atom with its sign.
-fn rows(out: &mut [u8], at: usize, from: usize, to: usize, tests: reader::Atom, sign: bool) -> usize
+fn rows(out: &mut [u8], at: usize, from: usize, to: usize, tests: atoms::Atom, sign: bool) -> usize
     requires { ⌜ Room (now out) at (λ alphabet. rowsOf tests sign alphabet from to) × (from ≤ 128) × (to ≤ 128) ⌝ }
     ensures { λ r. ⌜ Writes (now (out .entry)) (now (out .exit)) at r (λ alphabet. rowsOf tests sign alphabet from to) ⌝ }
 {
     match tests {
-        reader::Atom::Read { equal, symbol } => {
+        atoms::Atom::Read { equal, symbol } => {
             let code = code_of(out, symbol);
             read_rows(out, at, from, to, code, walked_as_is(equal, sign))
         }
-        reader::Atom::Counter { zero } => {
+        atoms::Atom::Counter { zero } => {
             counter_row(out, at, from, to, walked_as_is(zero, sign))
         }
     }
@@ -125,7 +125,7 @@ fn emit_atom(text: &[u8], out: &mut [u8], place: Place, to: usize, sign: bool) -
     requires { ⌜ Ready (AtomTask to sign) (now text) (now out) place ⌝ }
     ensures { λ r. ⌜ Emits (AtomTask to sign) (now (text .entry)) (now (out .entry)) (now (out .exit)) place r ⌝ }
 {
-    let read = reader::atom_at(text, place.at);
+    let read = atoms::atom_at(text, place.at);
     let AtomRead::Found { atom: tests, at } = read else {
         return place;
     };

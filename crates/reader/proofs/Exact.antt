@@ -25,12 +25,12 @@ use Rattle.rule.specs.Inside.Class as Class
 use Rattle.rule.specs.Inside.Class.{Fixed, spell, Class, mark, other, tokenOf, classify}
 use Rattle.rule.proofs.Machine.Class.{token-of-class, class-of-mark}
 use Rattle.rule.specs.Inside.Machine.{exact, Stack, Totals, choices, pick}
-use Rattle.reader.specs.Atom.{refusalOf}
+use Rattle.atoms.specs.Atom.{refusalOf}
 use Rattle.reader.specs.Inside.Answers.{Front, spot, totals, Ready, Answers}
 use Rattle.reader.specs.declared.answers.Counts.{Counts}
-use Rattle.reader.specs.declared.answers.Refusal.{Refusal}
+use Rattle.atoms.specs.declared.Refusal.{Refusal}
 use Rattle.reader.specs.declared.answers.Read.the-variants.{Went, Refused}
-use Rattle.reader.proofs.Arms.{passing}
+use Rattle.atoms.proofs.Arms.{passing}
 use Rattle.reader.proofs.Front.{front-sign}
 use Rattle.reader.proofs.Moves.{done, step}
 use Rattle.reader.proofs.Missed.{sort, refuses, refused}

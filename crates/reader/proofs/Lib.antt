@@ -1,12 +1,11 @@
 -- What the readers answer, by the machine with a stack.
 pub mod Front
 pub mod Moves
-pub mod Arms
 pub mod Missed
 pub mod Exact
 pub mod Alphabet
 pub mod Tested
-pub mod Said
+pub mod Atoms
 pub mod Operators
 pub mod Peek
 pub mod Branches

@@ -11,7 +11,7 @@ use Rattle.rule.specs.Limits.{isIn}
 use Rattle.rule.specs.Inside.Machine.{Stack, withLetter, excess}
 use Rattle.reader.specs.Inside.Answers.{Spot, totals, Answers, alphabetOf, Sized, AnswersWith}
 use Rattle.reader.specs.declared.answers.Counts.{Counts}
-use Rattle.reader.specs.declared.answers.Refusal.{Refusal}
+use Rattle.atoms.specs.declared.Refusal.{Refusal}
 use Rattle.reader.specs.declared.answers.Read.{Read}
 use Rattle.reader.specs.declared.answers.Read.the-variants.{Refused}
 use Rattle.reader.specs.declared.letters.Letters.{Letters}

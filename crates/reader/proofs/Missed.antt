@@ -27,11 +27,11 @@ use Rattle.rule.specs.Inside.Class as Class
 use Rattle.rule.specs.Inside.Class.{spell, Class, mark, other, tokenOf, classify}
 use Rattle.rule.proofs.Machine.Class.{token-of-class}
 use Rattle.rule.specs.Inside.Machine.{Expected, Stack, Totals, Move, Choice, on, onNumber, onLetter, choices, take, pick, run}
-use Rattle.reader.specs.Atom.{refusalOf}
+use Rattle.atoms.specs.Atom.{refusalOf}
 use Rattle.reader.specs.Inside.Answers.{spot, Stops, Answers}
-use Rattle.reader.specs.declared.answers.Refusal.{Refusal}
+use Rattle.atoms.specs.declared.Refusal.{Refusal}
 use Rattle.reader.specs.declared.answers.Read.the-variants.{Refused}
-use Rattle.reader.proofs.Arms.{passing, left-passes, valuesLeft, value-left}
+use Rattle.atoms.proofs.Arms.{passing, left-passes, valuesLeft, value-left}
 use Rattle.reader.proofs.Front.{named, classOf, front-word, front-number, front-letter, front-sign}
 use Rattle.reader.proofs.Moves.{misses, under-stops}
 

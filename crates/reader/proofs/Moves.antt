@@ -14,7 +14,7 @@ use Rattle.rule.specs.Inside.Machine.{Expected, Stack, Value, Totals, Move, cho
 use Rattle.rule.proofs.Machine.Steps.{run-stops, run-breaks, run-passes}
 use Rattle.reader.specs.Inside.Answers.{Front, Spot, spot, totals, ComesTo, Stops, Ready, Answers, Past, Eats}
 use Rattle.reader.specs.declared.answers.Counts.{Counts}
-use Rattle.reader.specs.declared.answers.Refusal.{Refusal}
+use Rattle.atoms.specs.declared.Refusal.{Refusal}
 use Rattle.reader.specs.declared.answers.Read.{Read}
 use Rattle.reader.specs.declared.answers.Read.the-variants.{Went, Refused}
 

@@ -20,7 +20,7 @@ use Rattle.rule.specs.Inside.Machine.{operand, tail}
 use Rattle.reader.specs.Inside.Answers.{spot, totals, ComesTo}
 use Rattle.reader.specs.Inside.Atoms.{isSign, NoSign}
 use Rattle.reader.specs.declared.answers.Counts.{Counts}
-use Rattle.reader.proofs.Arms.{by-number}
+use Rattle.atoms.proofs.Arms.{by-number}
 use Rattle.reader.proofs.Front.{told-sign}
 use Rattle.reader.proofs.Moves.{moves, counts-plus}
 

@@ -28,7 +28,7 @@ use Rattle.rule.specs.Inside.Machine.{Expected, exact, distance, number, orElse
 use Rattle.rule.proofs.Machine.Steps.{run-stops, run-breaks, run-passes}
 use Rattle.rule.proofs.Machine.Follow.{unlike, notFirst, run-no-else, run-no-also}
 use Rattle.reader.specs.Inside.Answers.{spot, ComesTo}
-use Rattle.reader.proofs.Arms.{passing, left-passes, valuesLeft, value-left}
+use Rattle.atoms.proofs.Arms.{passing, left-passes, valuesLeft, value-left}
 use Rattle.reader.proofs.Missed.{sort}
 
 -- a token that is not the mark is none of its class

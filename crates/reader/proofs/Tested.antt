@@ -12,12 +12,10 @@ use Rattle.text.specs.Token as Spelt
 use Rattle.text.specs.Token.{w}
 use Rattle.text.specs.Tokens.{_at_, Ending}
 use Rattle.text.specs.First.{part, FirstToken}
-use Rattle.text.specs.declared.Word.{Word}
 use Rattle.text.specs.declared.Sign.{Sign}
 use Rattle.text.specs.declared.Token.{Token}
 use Rattle.text.specs.declared.Token.the-variants as Token
 use Rattle.text.proofs.Sign as sign-type
-use Rattle.text.proofs.Word as word-type
 use Rattle.text.proofs.Token as token-type
 use Rattle.text.proofs.Tokens.{tokens-once}
 use Rattle.text.proofs.Once.{first-once}
@@ -31,26 +29,25 @@ use Rattle.rule.specs.Inside.Class as Class
 use Rattle.rule.specs.Inside.Class.{Class, tokenOf}
 use Rattle.rule.proofs.Machine.Class.{token-of-class}
 use Rattle.rule.specs.Inside.Machine.{Expected, number, operand, symbolName, Stack, Value, Totals, counted, Move, outside, choices, pick, move, refused, run}
-use Rattle.reader.specs.Atom.{refusalOf}
+use Rattle.atoms.specs.Atom.{refusalOf}
 use Rattle.reader.specs.Inside.Answers.{Front, spot, totals, Stops, Ready, Answers}
-use Rattle.reader.specs.Inside.Atoms.{symbolOf, atomOf, rowsOf, strayOf, Zeroed, letterOf, compared, behind, isSign, NoSign, Tests}
-use Rattle.reader.specs.declared.answers.Refusal.{Refusal}
+use Rattle.reader.specs.Inside.Atoms.{symbolOf, atomOf, rowsOf, strayOf, Zeroed, compared, behind, isSign, NoSign, Tests}
+use Rattle.atoms.specs.declared.Refusal.{Refusal}
 use Rattle.reader.specs.declared.answers.Counts.{Counts}
 use Rattle.reader.specs.declared.answers.Read.the-variants as Read
 use Rattle.reader.specs.declared.answers.Read.the-variants.{Went}
-use Rattle.reader.specs.declared.atoms.Symbol.{Symbol as Sought}
-use Rattle.reader.specs.declared.atoms.Symbol.the-variants as Sought
-use Rattle.reader.proofs.atoms.Symbol as symbol-type
-use Rattle.reader.specs.declared.atoms.Stray.{Stray}
-use Rattle.reader.specs.declared.atoms.Stray.the-variants as Stray
-use Rattle.reader.specs.declared.atoms.Atom.{Atom}
-use Rattle.reader.specs.declared.atoms.Atom.the-variants as Atom
-use Rattle.reader.specs.declared.atoms.AtomRead.{AtomRead}
-use Rattle.reader.specs.declared.atoms.AtomRead.the-variants.{Found, Refused}
+use Rattle.atoms.specs.declared.Symbol.{Symbol as Sought}
+use Rattle.atoms.specs.declared.Symbol.the-variants as Sought
+use Rattle.atoms.proofs.Symbol as symbol-type
+use Rattle.reader.specs.declared.conditions.Stray.{Stray}
+use Rattle.reader.specs.declared.conditions.Stray.the-variants as Stray
+use Rattle.atoms.specs.declared.Atom.{Atom}
+use Rattle.atoms.specs.declared.Atom.the-variants as Atom
+use Rattle.atoms.specs.declared.AtomRead.{AtomRead}
+use Rattle.atoms.specs.declared.AtomRead.the-variants.{Found, Refused}
 use Rattle.reader.proofs.Moves.{goes, breaks, comes-stops, counts-plus}
-use Rattle.reader.proofs.Arms.{valuesLeft}
-use Rattle.reader.proofs.Front.{front-letter}
-use Rattle.reader.proofs.Missed.{Misses, missed, sortsLeft, missesSign, missesWord, missed-sort, missed-sign, missed-word}
+use Rattle.atoms.proofs.Arms.{valuesLeft}
+use Rattle.reader.proofs.Missed.{Misses, missed, sortsLeft, missesSign, missed-sort, missed-sign}
 
 -- a token by its class
 front-token : {text : List ℕ} {from p q : ℕ} {k : Class} (f : Front text from k p q) → f .token ≡ tokenOf k
@@ -80,15 +77,6 @@ module _ {text : List ℕ} {from : ℕ} {lead : Ts → Ts} {x : Expected} where
       → Tests text from lead x (Refused r)
   test-refuses-sign {p = p} {q = q} {v = v} f e h right =
       test-missed (subst (λ (u : Token). FirstToken text from u) e f) (λ t. missed-sign text x t p q v (h t)) right
-
-  pub test-refuses-word : {k : Token} {r : Refusal} {p q : ℕ} {v : Word}
-      → FirstToken text from k
-      → k ≡ Token.Word p q v
-      → ((t : Totals) → OneOf (valuesLeft word-type.enum (missesWord t x p (part text p q))) (tagOf word-type.the-type v))
-      → r ≡ record { number = 4; place = p }
-      → Tests text from lead x (Refused r)
-  test-refuses-word {p = p} {q = q} {v = v} f e h right =
-      test-missed (subst (λ (u : Token). FirstToken text from u) e f) (λ t. missed-word text x t p q v (h t)) right
 
   module _ {p q : ℕ} {k : Class} (f : Front text from k p q) where
     -- a limit is broken
@@ -219,19 +207,6 @@ module _ {text : List ℕ} {from p q : ℕ} (equal : Bool) (o r : ℕ) where
       (λ ts. is-counter equal o r p l ts)
       (counter-zeroed equal n (ap (λ (t : Bool). faultIf t 7 p) h))
       (counter-is equal n)
-
--- where no word stands, a letter is what `read` is compared with, and anything else is refused
-pub letter-or-refused : {text : List ℕ} {from : ℕ} (k : Token) (equal : Bool) (o r : ℕ)
-    → FirstToken text from k
-    → OneOf (1 ∷ 2 ∷ 3 ∷ 4 ∷ 5 ∷ []) (tagOf token-type.the-type k)
-    → Tests text from (λ ts. behind (w "read") o (behind (compared equal) r ts)) symbolName (letterOf equal k)
-letter-or-refused (Token.Word p q x) equal o r f h = absurd (miss (1 ∷ 2 ∷ 3 ∷ 4 ∷ 5 ∷ []) 0 tt h)
-letter-or-refused (Token.Number p q) equal o r f h = test-refuses f (λ t. hit (1 ∷ 3 ∷ 4 ∷ 5 ∷ []) 1 tt) refl
-letter-or-refused (Token.Letter p q b) equal o r f h =
-    sought-found equal o r (Tree.letter (record { byte = b; place = p })) (front-letter f refl) (λ ts. Grammar.aLetter)
-letter-or-refused (Token.Sign p q x) equal o r f h = test-refuses f (λ t. hit (1 ∷ 3 ∷ 4 ∷ 5 ∷ []) 3 tt) refl
-letter-or-refused (Token.End p) equal o r f h = test-refuses f (λ t. hit (1 ∷ 3 ∷ 4 ∷ 5 ∷ []) 4 tt) refl
-letter-or-refused (Token.Broken p) equal o r f h = test-refuses f (λ t. hit (1 ∷ 3 ∷ 4 ∷ 5 ∷ []) 5 tt) refl
 
 -- no sign and no word is left
 pub nor-sign : {text : List ℕ} {from : ℕ} {k : Token}

@@ -12,9 +12,9 @@ use Rattle.text.proofs.Token as token-type
 use Rattle.text.proofs.Tokens.{tokens-once}
 use Rattle.rule.specs.Inside.Machine.{program, start, Totals, taken, refused, run, outcome}
 use Rattle.rule.proofs.Outcomes.{outcome-is}
-use Rattle.reader.specs.Atom.{refusalOf}
+use Rattle.atoms.specs.Atom.{refusalOf}
 use Rattle.reader.specs.Inside.Answers.{spot, ComesTo, Stops, Answers, outcomeOf}
-use Rattle.reader.specs.declared.answers.Refusal.{Refusal}
+use Rattle.atoms.specs.declared.Refusal.{Refusal}
 use Rattle.reader.specs.declared.answers.Read.{Read}
 use Rattle.reader.specs.declared.answers.Read.the-variants.{Refused}
 

@@ -1,4 +1,3 @@
--- What reading a text promises, and reading an atom of it.
+-- What reading a text promises.
 pub mod Reading
-pub mod Atom
 pub mod Inside

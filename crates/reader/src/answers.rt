@@ -5,8 +5,9 @@ ghost use Prim.Native.Nat.{ℕ, _+_, _^_, _<_};
 ghost use Rattle.text.specs.Token as Spelt;
 ghost use Rattle.rule.specs.Inside.Class.{Fixed, spell};
 ghost use Rattle.rule.specs.Inside.Machine.{exact};
-ghost use Rattle.reader.specs.Atom.{refusalOf};
 ghost use Rattle.reader.specs.Inside.Answers.{totals, spot, Ready, Answers};
+use atoms::Refusal;
+use atoms::refuse;
 use text::Token;
 use tokeniser::token_at;
 
@@ -28,58 +29,9 @@ impl Counts {
     }
 }
 
-pub struct Refusal {
-    pub number: usize,
-    pub place: usize,
-}
-
 pub enum Read {
     Went { at: usize, counts: Counts },
     Refused(Refusal),
-}
-
-// The refusal of a token with which no program goes on.
-pub fn refuse(token: Token) -> Refusal
-    ensures { λ r. ⌜ r ≡ refusalOf token ⌝ }
-{
-    match token {
-        Token::Word {
-            at,
-            end: _,
-            word: _,
-        } => Refusal {
-            number: 4,
-            place: at,
-        },
-        Token::Number { at, end: _ } => Refusal {
-            number: 4,
-            place: at,
-        },
-        Token::Letter {
-            at,
-            end: _,
-            byte: _,
-        } => Refusal {
-            number: 4,
-            place: at,
-        },
-        Token::Sign {
-            at,
-            end: _,
-            sign: _,
-        } => Refusal {
-            number: 4,
-            place: at,
-        },
-        Token::End { at } => Refusal {
-            number: 4,
-            place: at,
-        },
-        Token::Broken { at } => Refusal {
-            number: 3,
-            place: at,
-        },
-    }
 }
 
 // A sign of one byte. Enums have no `==`, and this byte says which sign it is.

@@ -1,22 +1,57 @@
 // Conditions. Which operator binds tighter changes no count, so operands are read in a row.
+ghost use mathlib.Core.Path.{_≡_};
 ghost use mathlib.Core.List.{[], _∷_};
-ghost use Prim.Native.Nat.{ℕ, _-_, _≤_};
+ghost use Prim.Native.Nat.{ℕ, _+_, _-_, _^_, _≤_, _<_};
 ghost use Rattle.rule.specs.Inside.Machine.{operand, tail};
 ghost use Rattle.reader.specs.Inside.Answers.{alphabetOf, Sized, totals, spot, Ready, Answers};
-ghost use Rattle.reader.specs.Inside.Atoms.{NoSign};
+ghost use Rattle.reader.specs.Inside.Atoms.{NoSign, rowsOf, strayOf};
 use super::answers::Counts;
 use super::answers::Read;
-use super::answers::Refusal;
-use super::answers::refuse;
-use super::atoms::AtomRead;
-use super::atoms::Stray;
-use super::atoms::atom_from;
-use super::atoms::rows_of;
-use super::atoms::stray_of;
 use super::letters::Letters;
+use atoms::Atom;
+use atoms::AtomRead;
+use atoms::Refusal;
+use atoms::Symbol;
+use atoms::atom_at;
+use atoms::refuse;
 use text::Sign;
 use text::Token;
 use tokeniser::token_at;
+
+fn rows_of(atom: Atom, letters: usize) -> usize
+    requires { ⌜ letters + 2 < 2 ^ 64 ⌝ }
+    ensures { λ r. ⌜ r ≡ rowsOf letters atom ⌝ }
+{
+    match atom {
+        Atom::Read {
+            equal: _,
+            symbol: _,
+        } => letters + 2,
+        Atom::Counter { zero: _ } => 2,
+    }
+}
+
+// Where an atom's letter stands, if it is outside the alphabet.
+pub enum Stray {
+    Nowhere,
+    At(usize),
+}
+
+fn stray_of(atom: Atom, letters: Letters) -> Stray
+    requires { ⌜ Sized letters ⌝ }
+    ensures { λ r. ⌜ r ≡ strayOf (alphabetOf letters) atom ⌝ }
+{
+    let Atom::Read { equal: _, symbol } = atom else {
+        return Stray::Nowhere;
+    };
+    let Symbol::Letter { byte, place } = symbol else {
+        return Stray::Nowhere;
+    };
+    if letters.has(byte) {
+        return Stray::Nowhere;
+    }
+    Stray::At(place)
+}
 
 // An atom with its rows. A letter outside the alphabet is refused.
 fn counted_atom_at(text: &[u8], at: usize, counts: Counts, letters: Letters) -> Read
@@ -24,7 +59,7 @@ fn counted_atom_at(text: &[u8], at: usize, counts: Counts, letters: Letters) -> 
     requires { ⌜ NoSign (now text) at × Sized letters ⌝ }
     ensures { λ r. ⌜ ((n : ℕ) → Answers (now (text .entry)) (spot at (operand n ∷ []) (totals (alphabetOf letters) counts)) [] (alphabetOf letters) r) ⌝ }
 {
-    match atom_from(text, at) {
+    match atom_at(text, at) {
         AtomRead::Found { atom, at: next } => match stray_of(atom, letters) {
             Stray::Nowhere => Read::Went {
                 at: next,

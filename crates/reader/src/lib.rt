@@ -1,6 +1,5 @@
 // Reading a rule: its grammar, its limits, and how many states and rows it takes. The readers lend no buffer.
 mod answers;
-mod atoms;
 mod conditions;
 mod letters;
 mod numbers;
@@ -9,13 +8,8 @@ mod programs;
 mod settings;
 mod statements;
 
-ghost use Rattle.reader.specs.Atom.{AtomAt};
 ghost use Rattle.reader.specs.Reading.{ReadsTo};
 use answers::Read;
-pub use answers::Refusal;
-pub use atoms::Atom;
-pub use atoms::AtomRead;
-pub use atoms::Symbol;
 use programs::program_of;
 
 pub enum Reading {
@@ -57,11 +51,4 @@ pub fn read(text: &[u8]) -> Reading
             }
         }
     }
-}
-
-// An atom of a condition by itself, whatever letters the alphabet has: the emitter goes by it.
-pub fn atom_at(text: &[u8], at: usize) -> AtomRead
-    ensures { λ r. ⌜ AtomAt (now (text .entry)) at r ⌝ }
-{
-    atoms::atom_from(text, at)
 }

@@ -9,8 +9,8 @@ ghost use Rattle.rule.specs.Inside.Machine.{number, outside};
 ghost use Rattle.reader.specs.Inside.Answers.{totals, spot, Ready, Answers};
 use super::answers::Counts;
 use super::answers::Read;
-use super::answers::Refusal;
-use super::answers::refuse;
+use atoms::Refusal;
+use atoms::refuse;
 use text::Token;
 use tokeniser::token_at;
 

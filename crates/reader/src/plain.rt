@@ -6,9 +6,9 @@ ghost use Rattle.rule.specs.Inside.Machine.{exact, number, distance, end, chang
 ghost use Rattle.reader.specs.Inside.Answers.{totals, spot, Ready, Answers};
 use super::answers::Counts;
 use super::answers::Read;
-use super::answers::refuse;
 use super::answers::sign_at;
 use super::numbers::number_at;
+use atoms::refuse;
 use text::Sign;
 use text::Token;
 use text::Word;

@@ -8,10 +8,10 @@ ghost use Rattle.rule.specs.Inside.Machine.{exact, program, alphabet, decrement
 ghost use Rattle.reader.specs.Inside.Answers.{alphabetOf, Sized, totals, spot, Ready, Answers, AnswersWith, refusedWith};
 use super::answers::Counts;
 use super::answers::Read;
-use super::answers::Refusal;
-use super::answers::refuse;
 use super::answers::sign_at;
 use super::letters::Letters;
+use atoms::Refusal;
+use atoms::refuse;
 use text::Sign;
 use text::Token;
 use text::Word;

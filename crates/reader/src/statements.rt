@@ -7,14 +7,14 @@ ghost use Rattle.reader.specs.Inside.Answers.{alphabetOf, Sized, totals,
 ghost use Rattle.reader.specs.Inside.Atoms.{NoSign};
 use super::answers::Counts;
 use super::answers::Read;
-use super::answers::Refusal;
-use super::answers::refuse;
 use super::answers::sign_at;
 use super::conditions::condition_at;
 use super::letters::Letters;
 use super::plain::change_at;
 use super::plain::goto_at;
 use super::plain::move_at;
+use atoms::Refusal;
+use atoms::refuse;
 use text::Sign;
 use text::Token;
 use text::Word;

@@ -8,7 +8,7 @@ use table::form;
 use table::source::Range;
 use table::source::Source;
 ghost use mathlib.Core.Path.{_≡_};
-ghost use Prim.Native.Nat.{_≤_};
+ghost use Prim.Native.Nat.{_+_, _*_, _-_, _≤_};
 ghost use lib.ListN.{length};
 ghost use lib.Dec.{eqb};
 ghost use Rattle.table.specs.Table.{Row};
@@ -16,6 +16,19 @@ ghost use Rattle.table.specs.Form.{wide};
 ghost use Rattle.table.specs.Fields.{rowFrom, rowOf, widthOf};
 ghost use Rattle.table.specs.RowCode.{rowIs};
 ghost use Rattle.table.specs.Source.{rangeOf};
+
+// So much less, or 0.
+fn less(n: usize, by: usize) -> usize
+    ensures { λ r. ⌜ r ≡ n - by ⌝ }
+{
+    if n < by { 0 } else { n - by }
+}
+
+fn two(high: u8, low: u8) -> usize
+    ensures { λ r. ⌜ r ≡ high * 256 + low ⌝ }
+{
+    (high as usize) * 256 + low as usize
+}
 
 // How many bytes a row takes: eight in the one edition that there is.
 fn row_bytes(image: &[u8]) -> usize
@@ -35,11 +48,16 @@ fn row_place(image: &[u8], i: usize) -> usize
     }
 }
 
-// Whether the row whose bytes start here leaves a state. A search asks this of every row that it is shown, so it reads no more than that.
+// Whether the row whose bytes start here leaves a state. A search asks this of every row that it is shown, so it reads no more than
+// that, and of a row that does not stand at the end with one look at the length.
 pub fn leaves(rows: &[u8], at: usize, state: usize) -> bool
     ensures { λ r. ⌜ r ≡ eqb (rowFrom (now (rows .entry)) at .from) state ⌝ }
 {
-    two_at(rows, at) == state
+    if at < less(rows.len(), 1) {
+        two(rows[at], rows[at + 1]) == state
+    } else {
+        two_at(rows, at) == state
+    }
 }
 
 // A place where the row is read whose bytes start here: this one, or the end if it is past that, since a place behind it need not fit a

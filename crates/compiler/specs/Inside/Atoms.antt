@@ -4,10 +4,10 @@ use mathlib.Core.Path.{_≡_}
 use mathlib.Core.Bool.{Bool, true, false, not}
 use mathlib.Core.List.{List, [], _∷_}
 use Rattle.table.specs.Table.{Row}
-use Rattle.reader.specs.declared.atoms.Symbol.{Symbol}
-use Rattle.reader.specs.declared.atoms.Symbol.the-variants as Symbol
-use Rattle.reader.specs.declared.atoms.Atom.{Atom}
-use Rattle.reader.specs.declared.atoms.Atom.the-variants as Atom
+use Rattle.atoms.specs.declared.Symbol.{Symbol}
+use Rattle.atoms.specs.declared.Symbol.the-variants as Symbol
+use Rattle.atoms.specs.declared.Atom.{Atom}
+use Rattle.atoms.specs.declared.Atom.the-variants as Atom
 use Rattle.table.specs.Form.{leftMark, rightMark, anySymbol, zeroCounter, aboveZero}
 use Rattle.construction.specs.Construction.{testRow, indexIn, allSymbols, without, symbolRows}
 use Rattle.compiler.specs.Inside.Writing.{Sheet, Holds}

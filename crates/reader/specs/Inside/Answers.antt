@@ -8,9 +8,9 @@ use Rattle.text.specs.Tokens.{Placed, _at_, Ending, Tokens}
 use Rattle.text.specs.declared.Token.{Token}
 use Rattle.rule.specs.Inside.Class.{Class, classify}
 use Rattle.rule.specs.Inside.Machine.{Stack, Totals, Outcome, taken, refused, run}
-use Rattle.reader.specs.Atom.{refusalOf}
+use Rattle.atoms.specs.Atom.{refusalOf}
 use Rattle.reader.specs.declared.answers.Counts.{Counts}
-use Rattle.reader.specs.declared.answers.Refusal.{Refusal}
+use Rattle.atoms.specs.declared.Refusal.{Refusal}
 use Rattle.reader.specs.declared.answers.Read.{Read}
 use Rattle.reader.specs.declared.answers.Read.the-variants.{Went, Refused}
 use Rattle.reader.specs.declared.letters.Letters.{Letters}

@@ -14,16 +14,15 @@ use Rattle.rule.specs.Tree as Tree
 use Rattle.rule.specs.Grammar.{Ts, IsAtom}
 use Rattle.rule.specs.Limits.{isIn, numberFaults}
 use Rattle.rule.specs.Inside.Machine.{Expected, Totals}
-use Rattle.reader.specs.Atom.{refusalOf}
 use Rattle.reader.specs.Inside.Answers.{spot, Stops}
-use Rattle.reader.specs.declared.atoms.Symbol.{Symbol as Sought}
-use Rattle.reader.specs.declared.atoms.Symbol.the-variants as Sought
-use Rattle.reader.specs.declared.atoms.Atom.{Atom}
-use Rattle.reader.specs.declared.atoms.Atom.the-variants as Atom
-use Rattle.reader.specs.declared.atoms.Stray.{Stray}
-use Rattle.reader.specs.declared.atoms.Stray.the-variants as Stray
-use Rattle.reader.specs.declared.atoms.AtomRead.{AtomRead}
-use Rattle.reader.specs.declared.atoms.AtomRead.the-variants.{Found, Refused}
+use Rattle.atoms.specs.declared.Symbol.{Symbol as Sought}
+use Rattle.atoms.specs.declared.Symbol.the-variants as Sought
+use Rattle.atoms.specs.declared.Atom.{Atom}
+use Rattle.atoms.specs.declared.Atom.the-variants as Atom
+use Rattle.reader.specs.declared.conditions.Stray.{Stray}
+use Rattle.reader.specs.declared.conditions.Stray.the-variants as Stray
+use Rattle.atoms.specs.declared.AtomRead.{AtomRead}
+use Rattle.atoms.specs.declared.AtomRead.the-variants.{Found, Refused}
 
 -- an atom of the code is this one of the tree
 abbrev pub symbolOf : Tree.SymbolName → Sought
@@ -55,15 +54,6 @@ Zeroed (Tree.readIs x) = Unit {0}
 Zeroed (Tree.readIsNot x) = Unit {0}
 Zeroed (Tree.counterIs n) = numberFaults 0 n ≡ []
 Zeroed (Tree.counterIsNot n) = numberFaults 0 n ≡ []
-
--- a letter that `read` is compared with, and a token that is none
-abbrev pub letterOf : Bool → Token → AtomRead
-letterOf equal (Token.Word p q x) = Refused (refusalOf (Token.Word p q x))
-letterOf equal (Token.Number p q) = Refused (refusalOf (Token.Number p q))
-letterOf equal (Token.Letter p q b) = Found (Atom.Read equal (Sought.Letter b p)) q
-letterOf equal (Token.Sign p q x) = Refused (refusalOf (Token.Sign p q x))
-letterOf equal (Token.End p) = Refused (refusalOf (Token.End p))
-letterOf equal (Token.Broken p) = Refused (refusalOf (Token.Broken p))
 
 -- the sign of a comparison
 abbrev pub compared : Bool → Spelt.Token

@@ -21,7 +21,7 @@ use Rattle.reader.proofs.conditions.operand_at.Reads as operand-at
 use Rattle.reader.proofs.conditions.operand_at.Kinds as operand-at-kinds
 use Rattle.reader.proofs.conditions.+condition_at+operand_at.Lts-operand_at as operand-at-lts
 use Rattle.reader.proofs.answers.Counts.plus.Reads as plus-reads
-use Rattle.reader.proofs.answers.refuse.Reads as refuse-reads
+use Rattle.atoms.proofs.refuse.Reads as refuse-reads
 use Rattle.reader.proofs.conditions.counted_atom_at.Reads as counted-atom-at-reads
 use Rattle.tokeniser.proofs.token_at.Reads as token-at-reads
 use Rattle.reader.proofs.conditions.+condition_at+operand_at.{statement}

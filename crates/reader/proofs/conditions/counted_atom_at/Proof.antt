@@ -7,12 +7,13 @@ use Rattle.reader.specs.Inside.Answers.{alphabetOf}
 use Rattle.reader.specs.Inside.Atoms.{rowsOf}
 use Rattle.reader.proofs.Alphabet.{alphabet-length}
 use Rattle.reader.proofs.Tested.{rows-most, atom-answers, atom-refused, atom-strays}
+use Rattle.reader.proofs.Atoms.{atom-tests}
 use borrow.Author.Needs.{needs}
 use Rattle.reader.proofs.conditions.counted_atom_at.Statement.{statement}
 use Rattle.reader.proofs.conditions.counted_atom_at.Tie as tie
 
-atom-from-requires : tie.Need-atom-from-requires
-atom-from-requires c κs = search needs
+atom-at-requires : tie.Need-atom-at-requires
+atom-at-requires c κs = search needs
 
 enum-known-atom : tie.Need-enum-known-atom
 enum-known-atom c = search needs
@@ -43,13 +44,13 @@ returns : tie.Need-returns
 returns c =
     let past-stray-of = c .before .before .before .before in
     let past-atom = past-stray-of .before .before in
-    let past-atom-from = past-atom .before .before in
-    let start = past-atom-from .before .before in
+    let past-atom-at = past-atom .before .before in
+    let start = past-atom-at .before .before in
     let sized = alphabet-length (start .pre .1 .1) in
     let few : length (alphabetOf (start .args .letters)) ≤ 16 = omega (arith, start .pre .1 .1) in
     λ n.
     atom-answers
-    (past-atom-from .atom-from .ensures .0 (start .pre .1 .0) n)
+    (atom-tests (start .pre .1 .0) (past-atom-at .atom-at .ensures) n)
     (past-atom .atom .given .1)
     (sym (past-stray-of .stray-of .ensures) ∙ c .before .before .enum-told .given .1)
     (start .pre .0)
@@ -61,22 +62,22 @@ returns-2 : tie.Need-returns-2
 returns-2 c =
     let past-stray-of = c .before .before .before in
     let past-atom = past-stray-of .before .before in
-    let past-atom-from = past-atom .before .before in
-    let start = past-atom-from .before .before in
+    let past-atom-at = past-atom .before .before in
+    let start = past-atom-at .before .before in
     λ n.
     atom-strays
-    (past-atom-from .atom-from .ensures .0 (start .pre .1 .0) n)
+    (atom-tests (start .pre .1 .0) (past-atom-at .atom-at .ensures) n)
     (past-atom .atom .given .1)
     (sym (past-stray-of .stray-of .ensures) ∙ c .before .place .given .1)
 
 returns-3 : tie.Need-returns-3
-returns-3 c = λ n. atom-refused (c .before .before .before .atom-from .ensures .0 (c .before .before .before .before .before .pre .1 .0) n) (c .before .refusal .given .1)
+returns-3 c = λ n. atom-refused (atom-tests (c .before .before .before .before .before .pre .1 .0) (c .before .before .before .atom-at .ensures) n) (c .before .refusal .given .1)
 
 pub counted-atom-at-spec : {M : Type 1} → statement M
 counted-atom-at-spec =
     tie.close
     (tie.spec
-    atom-from-requires
+    atom-at-requires
     enum-known-atom
     stray-of-requires
     enum-told

@@ -61,7 +61,7 @@ use Rattle.reader.proofs.statements.while_at.Reads as while-at
 use Rattle.reader.proofs.statements.while_at.Kinds as while-at-kinds
 use Rattle.reader.proofs.statements.+block_at+branch_at+guarded_at+if_at+statement_at+statements_at+while_at.Lts-while_at as while-at-lts
 use Rattle.reader.proofs.answers.Counts.plus.Reads as plus-reads
-use Rattle.reader.proofs.answers.refuse.Reads as refuse-reads
+use Rattle.atoms.proofs.refuse.Reads as refuse-reads
 use Rattle.reader.proofs.answers.sign_at.Reads as sign-at-reads
 use Rattle.reader.proofs.conditions.condition_at.Reads as condition-at-reads
 use Rattle.reader.proofs.plain.change_at.Reads as change-at-reads

@@ -1,0 +1,3 @@
+-- What reading an atom of a condition promises.
+pub mod Atom
+pub mod Inside
