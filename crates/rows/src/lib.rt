@@ -48,28 +48,42 @@ fn row_place(image: &[u8], i: usize) -> usize
     }
 }
 
-// Whether the row whose bytes start here leaves a state. A search asks this of every row that it is shown, so it reads no more than
-// that, and of a row that does not stand at the end with one look at the length.
+// Whether the row whose bytes start here leaves a state. A search asks this of every row that it is shown, so it reads no more than that.
 pub fn leaves(rows: &[u8], at: usize, state: usize) -> bool
     ensures { λ r. ⌜ r ≡ eqb (rowFrom (now (rows .entry)) at .from) state ⌝ }
 {
-    if at < less(rows.len(), 1) {
+    if at < less(rows.len(), 7) {
         two(rows[at], rows[at + 1]) == state
     } else {
         two_at(rows, at) == state
     }
 }
 
-// A place where the row is read whose bytes start here: this one, or the end if it is past that, since a place behind it need not fit a
-// number.
+// The row whose bytes start here, where they all stand.
+fn whole_row(rows: &[u8], at: usize) -> Row
+    requires { ⌜ at + 8 ≤ length (now rows) ⌝ }
+    ensures { λ r. ⌜ rowIs r ≡ rowFrom (now (rows .entry)) at ⌝ }
+{
+    Row {
+        from: two(rows[at], rows[at + 1]),
+        symbol: rows[at + 2],
+        test: rows[at + 3],
+        motion: rows[at + 4],
+        change: rows[at + 5],
+        to: two(rows[at + 6], rows[at + 7]),
+    }
+}
+
+// A place where a row is read of which some bytes may be past the end: where it starts, or the end if that is past it, since a place
+// behind that need not fit a number.
 fn place_of(rows: &[u8], at: usize) -> usize
     ensures { λ r. ⌜ (r ≤ length (now (rows .entry))) × (rowFrom (now (rows .entry)) r ≡ rowFrom (now (rows .entry)) at) ⌝ }
 {
     if at < rows.len() { at } else { rows.len() }
 }
 
-// The row whose bytes start here.
-pub fn row_here(rows: &[u8], at: usize) -> Row
+// The row whose bytes start here, where some may be past the end: those are 0.
+fn cut_row(rows: &[u8], at: usize) -> Row
     ensures { λ r. ⌜ rowIs r ≡ rowFrom (now (rows .entry)) at ⌝ }
 {
     let place = place_of(rows, at);
@@ -83,11 +97,22 @@ pub fn row_here(rows: &[u8], at: usize) -> Row
     }
 }
 
+// The row whose bytes start here.
+pub fn row_here(rows: &[u8], at: usize) -> Row
+    ensures { λ r. ⌜ rowIs r ≡ rowFrom (now (rows .entry)) at ⌝ }
+{
+    if at < less(rows.len(), 7) {
+        whole_row(rows, at)
+    } else {
+        cut_row(rows, at)
+    }
+}
+
 // Row i.
 pub fn row_at(image: &[u8], i: usize) -> Row
     ensures { λ r. ⌜ rowIs r ≡ rowOf (now (image .entry)) i ⌝ }
 {
-    row_here(image, row_place(image, i))
+    cut_row(image, row_place(image, i))
 }
 
 // Where the rows that leave a state are shown.

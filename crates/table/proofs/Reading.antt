@@ -1,6 +1,6 @@
 -- What the readers of an image read: the fields, a byte past the end, and a row.
 use Prim.Native.Nat.{ℕ, _+_, _*_, _/_, _%_, _^_, _≤_, _<_}
-use native.Mathlib.Nat.{add-comm}
+use native.Mathlib.Nat.{add-comm, add-assoc}
 use native.Mathlib.Decide.{decLt}
 use native.Mathlib.Omega.{arith}
 use mathlib.Core.Path.{_≡_, refl, sym, ap, _∙_}
@@ -115,6 +115,10 @@ module _ (image : List ℕ) where
   pub flag-inside : {b : ℕ} → b ≡ byteAt image (decrOnZeroPlace (lettersOf image)) → eqb b 1 ≡ tableOf image .decrOnZero
   unfolding tableOf
   flag-inside e = ap (λ (b : ℕ). eqb b 1) e
+
+  -- the last two bytes of a row
+  pub last-two : (at n : ℕ) → n ≡ byteAt image (at + 6) * 256 + byteAt image (at + 7) → n ≡ twoAt image (at + 6)
+  last-two at n e = e ∙ ap (λ (k : ℕ). byteAt image (at + 6) * 256 + byteAt image k) (sym (add-assoc at 6 1))
 
   -- a row of the code whose numbers stand here
   pub row-is

@@ -7,11 +7,11 @@ use Rattle.rows.proofs.row_at.Tie as tie
 row-place-requires : tie.Need-row-place-requires
 row-place-requires c κs = search needs
 
-row-here-requires : tie.Need-row-here-requires
-row-here-requires c κs = search needs
+cut-row-requires : tie.Need-cut-row-requires
+cut-row-requires c κs = search needs
 
 returns : tie.Need-returns
-returns c = c .row-here .ensures ∙ c .before .row-place .ensures
+returns c = c .cut-row .ensures ∙ c .before .row-place .ensures
 
 pub row-at-spec : {M : Type 1} → statement M
-row-at-spec = tie.close (tie.spec row-place-requires row-here-requires returns)
+row-at-spec = tie.close (tie.spec row-place-requires cut-row-requires returns)

@@ -2,8 +2,8 @@
 use mathlib.Core.Path.{_∙_}
 use Rattle.table.proofs.Reading.{row-is}
 use borrow.Author.Needs.{needs}
-use Rattle.rows.proofs.row_here.Statement.{statement}
-use Rattle.rows.proofs.row_here.Tie as tie
+use Rattle.rows.proofs.cut_row.Statement.{statement}
+use Rattle.rows.proofs.cut_row.Tie as tie
 
 place-of-requires : tie.Need-place-of-requires
 place-of-requires c κs = search needs
@@ -58,8 +58,8 @@ returns c =
     (c .two-at2 .ensures)
     ∙ past-place-of .place-of .ensures .1
 
-pub row-here-spec : {M : Type 1} → statement M
-row-here-spec =
+pub cut-row-spec : {M : Type 1} → statement M
+cut-row-spec =
     tie.close
     (tie.spec
     place-of-requires
