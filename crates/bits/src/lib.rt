@@ -1,7 +1,8 @@
-// Bits of a slice of bytes. Bit i is bit i mod 8, the least being 0, of byte i / 8.
+// Bytes, and bits of a slice of them. Bit i is bit i mod 8, the least being 0, of byte i / 8.
 ghost use mathlib.Core.Path.{_≡_};
 ghost use lib.ListN.{getD, length, replicate};
 ghost use Rattle.bits.specs.Bit.{bit, withBit, withoutBit};
+ghost use Rattle.bits.specs.Byte.{isLetter};
 
 // Byte i, or 0 past the end.
 pub fn byte_at(m: &[u8], i: usize) -> u8
@@ -47,5 +48,17 @@ pub fn clear(m: &mut [u8])
     while i < m.len() {
         m[i] = 0;
         i += 1;
+    }
+}
+
+// Whether a byte may be a letter: 0-9 A-Z a-z.
+pub fn is_letter(b: u8) -> bool
+    ensures { λ r. ⌜ r ≡ isLetter b ⌝ }
+{
+    match b {
+        b'0'..=b'9' => true,
+        b'A'..=b'Z' => true,
+        b'a'..=b'z' => true,
+        _ => false,
     }
 }

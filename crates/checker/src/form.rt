@@ -13,7 +13,6 @@ ghost use mathlib.Core.Path.{_≡_};
 ghost use Prim.Native.Nat.{ℕ, _+_, _^_, _≤_, _<_};
 ghost use lib.ListN.{length};
 ghost use Rattle.bits.specs.Bit.{bit};
-ghost use Rattle.bits.specs.Byte.{isLetter};
 ghost use Rattle.table.specs.Form.{lettersPlace, eitherCounter, toRight, mostChange};
 ghost use Rattle.table.specs.Table.{Accepting};
 ghost use Rattle.table.specs.Fields.{lettersOf, letterOf, rowOf, rowCount, tableOf};
@@ -82,18 +81,6 @@ fn tail_right(image: &[u8]) -> bool
     field_at(image, k + form::ROWS_TAG, 6, many) && image.len() == k + form::ROWS_PLACE + many
 }
 
-// Whether a byte may be a letter: 0-9 A-Z a-z.
-fn is_letter(b: u8) -> bool
-    ensures { λ r. ⌜ r ≡ isLetter b ⌝ }
-{
-    match b {
-        b'0'..=b'9' => true,
-        b'A'..=b'Z' => true,
-        b'a'..=b'z' => true,
-        _ => false,
-    }
-}
-
 // Whether letter c differs from each before it.
 fn fresh(image: &[u8], c: usize) -> bool
     ensures { λ r. ⌜ Tells r ((d : ℕ) → d < c → letterOf (now (image .entry)) d ≡ letterOf (now (image .entry)) c → ⊥) ⌝ }
@@ -113,7 +100,7 @@ fn fresh(image: &[u8], c: usize) -> bool
 fn letter_right(image: &[u8], c: usize) -> bool
     ensures { λ r. ⌜ Tells r (LetterRight (now (image .entry)) c) ⌝ }
 {
-    is_letter(letter_at(image, c)) && fresh(image, c)
+    bits::is_letter(letter_at(image, c)) && fresh(image, c)
 }
 
 // Whether all letters are different letters.

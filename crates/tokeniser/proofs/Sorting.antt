@@ -103,30 +103,27 @@ pub by-range : (k : Kind) (kss : List (List ℕ)) (low n b : ℕ)
 by-range k kss low n b t none h i = is-kind k b (no-key kss (isKind k) b none (ranged (unless kss (isKind k)) low n b t h i))
 
 decides : (d a u q w s g : Bool)
-    → (d ≡ ltb (tag (sorted d a u q w s g)) 1)
-    × ((d || a) ≡ ltb (tag (sorted d a u q w s g)) 2)
-    × (((a || u) || d) ≡ ltb (tag (sorted d a u q w s g)) 3)
-decides true true u q w s g = (refl, refl, refl)
-decides true false true q w s g = (refl, refl, refl)
-decides true false false q w s g = (refl, refl, refl)
-decides false true u q w s g = (refl, refl, refl)
-decides false false true q w s g = (refl, refl, refl)
-decides false false false true w s g = (refl, refl, refl)
-decides false false false false true s g = (refl, refl, refl)
-decides false false false false false true g = (refl, refl, refl)
-decides false false false false false false true = (refl, refl, refl)
-decides false false false false false false false = (refl, refl, refl)
+    → (d ≡ ltb (tag (sorted d a u q w s g)) 1) × (((a || u) || d) ≡ ltb (tag (sorted d a u q w s g)) 3)
+decides true true u q w s g = (refl, refl)
+decides true false true q w s g = (refl, refl)
+decides true false false q w s g = (refl, refl)
+decides false true u q w s g = (refl, refl)
+decides false false true q w s g = (refl, refl)
+decides false false false true w s g = (refl, refl)
+decides false false false false true s g = (refl, refl)
+decides false false false false false true g = (refl, refl)
+decides false false false false false false true = (refl, refl)
+decides false false false false false false false = (refl, refl)
 
--- the tests that a byte's kind decides: the first kind is that of digits, the first two make letters, the first three words
+-- the tests that a byte's kind decides: the first kind is that of digits, the first three make words
 pub record Decides (b : ℕ) (k : Kind) : Type 0 where
   pub digit : isDigit b ≡ ltb (tag k) 1
-  pub letter : isLetter b ≡ ltb (tag k) 2
   pub word : inWord b ≡ ltb (tag k) 3
 
 pub kind-decides : (b : ℕ) (k : Kind) → k ≡ kindOf b → Decides b k
 kind-decides b k e =
     let all = decides (isDigit b) (isAlphabetic b) (eqb b 95) (eqb b quote) (isWhite b) (eqb b slash) (begins signs b) in
-    subst (Decides b) (sym e) (record { digit = all .0; letter = all .1; word = all .2 })
+    subst (Decides b) (sym e) (record { digit = all .0; word = all .1 })
 
 -- a kind among these is one of the first so many
 pub among : (n : ℕ) (ks : List ℕ) (k : Kind) → T (every (λ (t : ℕ). ltb t n) ks) → OneOf ks (tag k) → ltb (tag k) n ≡ true

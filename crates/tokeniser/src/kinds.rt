@@ -1,7 +1,7 @@
-// The kind of a byte, by the range it falls in, and what follows from the kind: whether the byte is a digit, may stand in
-// quotes, or goes on with a word.
+// The kind of a byte, by the range it falls in, and what follows from the kind: whether the byte is a digit, or goes on
+// with a word.
 ghost use mathlib.Core.Path.{_≡_};
-ghost use Rattle.bits.specs.Byte.{isDigit, isLetter};
+ghost use Rattle.bits.specs.Byte.{isDigit};
 ghost use Rattle.text.specs.Token.{inWord};
 ghost use Rattle.tokeniser.specs.Inside.Tokenising.{kindOf};
 
@@ -37,15 +37,6 @@ pub fn is_digit(b: u8) -> bool
 {
     match kind_of(b) {
         Kind::Digit => true,
-        _ => false,
-    }
-}
-
-pub fn is_letter(b: u8) -> bool
-    ensures { λ r. ⌜ r ≡ isLetter b ⌝ }
-{
-    match kind_of(b) {
-        Kind::Digit | Kind::Alphabetic => true,
         _ => false,
     }
 }

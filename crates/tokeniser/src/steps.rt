@@ -13,7 +13,6 @@ use super::ends::comment_end;
 use super::ends::number_end;
 use super::ends::word_end;
 use super::kinds::Kind;
-use super::kinds::is_letter;
 use super::kinds::kind_of;
 use super::signs::Found;
 use super::signs::pair;
@@ -72,7 +71,7 @@ fn letter_at(text: &[u8], at: usize) -> Token
         return Token::Broken { at };
     }
     let byte = text[at + 1];
-    if !is_letter(byte) {
+    if !bits::is_letter(byte) {
         return Token::Broken { at };
     }
     if text[at + 2] != b'\'' {

@@ -1,8 +1,8 @@
 -- The ranges of the three kinds of letters. Assumes nothing.
 use native.Mathlib.Omega.{arith}
 use Rattle.bits.proofs.Telling.{range-inside, range-below, range-above}
-use Rattle.checker.proofs.form.is_letter.Statement.{statement}
-use Rattle.checker.proofs.form.is_letter.Tie as tie
+use Rattle.bits.proofs.is_letter.Statement.{statement}
+use Rattle.bits.proofs.is_letter.Tie as tie
 
 returns : tie.Need-returns
 returns c = let b = c .before .before .args .b in simp (range-inside 48 57 b (omega arith) (omega arith))
