@@ -12,7 +12,7 @@ use types.Run.{OneOf, hit}
 use mir.Val.{hasKey}
 use denote.Enum.Declared.{tagOf}
 use Rattle.bits.proofs.Tests.{or-left, or-right, every}
-use Rattle.bits.specs.Byte.{isDigit, isAlphabetic, isLetter}
+use Rattle.bits.specs.Byte.{isDigit, isAlphabetic}
 use Rattle.text.specs.Token.{beginsWord, inWord, quote, signs}
 use Rattle.text.specs.Tokens.{isWhite, slash}
 use Rattle.tokeniser.specs.Inside.Tokenising.{begins, sorted, kindOf}
