@@ -1,6 +1,8 @@
 // compile [IMAGE]: compiles the rule on standard input and prints one line, `ok STATES ROWS BYTES` or `no NUMBER PLACE`. With
 // a name it also writes the image to the file of that name, if the rule compiles. What keeps it from that is said on standard
 // error, and then no line is printed.
+#![tactic(auto)]
+
 use libc::{STDERR_FILENO, STDIN_FILENO, STDOUT_FILENO};
 
 fn usage() {

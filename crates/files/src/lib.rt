@@ -1,4 +1,6 @@
 // Files for programs: reading all of one, or of standard input, into a buffer, so that a failed read is never taken for an end.
+#![tactic(auto)]
+
 ghost use Rattle.std.specs.Prelude.{◌-◌, ◌<◌, min, ◌≡◌, length};
 ghost use Rattle.files.specs.Reading.{Within, failed_of, count_of};
 ghost use Rattle.io.specs.Counts.{IsPrefixLen};

@@ -1,5 +1,7 @@
 // Writing a file whole: to a new file beside it, which takes its name when it is written, so that a failure leaves nothing behind
 // and the old file as it was. Nothing is replaced but a file that is not the one that was read.
+#![tactic(auto)]
+
 mod seen;
 
 ghost use Rattle.std.specs.Prelude.{◌+◌, ◌≤◌, ◌<◌, ◌≡◌, true, length};

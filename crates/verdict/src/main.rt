@@ -1,5 +1,7 @@
 // verdict IMAGE WORD LIMIT: judges a word with the table of an image file, and prints one line: `yes COUNT`, `no COUNT`,
 // `limit met COUNT`, or `refused NUMBER PLACE` and what that means. What cannot be judged at all is said on standard error.
+#![tactic(auto)]
+
 use libc::{STDERR_FILENO, STDOUT_FILENO};
 
 // A line that cannot be written is said on standard error: no line never means that all is well.
