@@ -11,11 +11,11 @@ use Rattle.tokeniser.proofs.ends.number_end.Goals as goal
 
 pub returns-then-not-is_digit : goal.returns-then-not-is_digit
 returns-then-not-is_digit c =
-    c.loop-i.invariant _ (stop c.loop-i-test.true (sym c.is_digit.ensures ∙ not-true _ c.if-not-is_digit.true))
+    c.loop-i.invariant _ (stop c.loop-i-test.true (sym c.is_digit.ensures ∙ c.if-not-is_digit.true))
 
 pub loop-i-preserved : goal.loop-i-preserved
 loop-i-preserved c = λ n r.
-    c.loop-i.invariant n (on c.loop-i-test.true (sym c.is_digit.ensures ∙ not-false _ c.if-not-is_digit.false) r)
+    c.loop-i.invariant n (on c.loop-i-test.true (sym c.is_digit.ensures ∙ c.if-not-is_digit.false) r)
 
 pub returns : goal.returns
 returns c = c.loop-i.invariant _ (over c.loop-i-test.false)

@@ -11,11 +11,11 @@ use Rattle.tokeniser.proofs.ends.word_end.Goals as goal
 
 pub returns-then-not-in_word : goal.returns-then-not-in_word
 returns-then-not-in_word c =
-    c.loop-i.invariant _ (stop c.loop-i-test.true (sym c.in_word.ensures ∙ not-true _ c.if-not-in_word.true))
+    c.loop-i.invariant _ (stop c.loop-i-test.true (sym c.in_word.ensures ∙ c.if-not-in_word.true))
 
 pub loop-i-preserved : goal.loop-i-preserved
 loop-i-preserved c = λ n r.
-    c.loop-i.invariant n (on c.loop-i-test.true (sym c.in_word.ensures ∙ not-false _ c.if-not-in_word.false) r)
+    c.loop-i.invariant n (on c.loop-i-test.true (sym c.in_word.ensures ∙ c.if-not-in_word.false) r)
 
 pub returns : goal.returns
 returns c = c.loop-i.invariant _ (over c.loop-i-test.false)

@@ -12,15 +12,15 @@ returns-then-text-at-lt3 c =
 
 pub returns-then-not-is_letter : goal.returns-then-not-is_letter
 returns-then-not-is_letter c =
-    let other = sym c.is_letter.ensures ∙ not-true _ c.if-not-is_letter.true in
+    let other = sym c.is_letter.ensures ∙ c.if-not-is_letter.true in
     letter_other c.args.text.now c.args.at c.requires.0 c.requires.1 (omega arith) other
 
 pub returns-then-text-at-ne39 : goal.returns-then-text-at-ne39
 returns-then-text-at-ne39 c =
-    let letter = sym c.is_letter.ensures ∙ not-false _ c.if-not-is_letter.false in
+    let letter = sym c.is_letter.ensures ∙ c.if-not-is_letter.false in
     letter_open c.args.text.now c.args.at c.requires.0 c.requires.1 (omega arith) letter c.if-text-at-ne39.true
 
 pub returns : goal.returns
 returns c =
-    let letter = sym c.is_letter.ensures ∙ not-false _ c.if-not-is_letter.false in
+    let letter = sym c.is_letter.ensures ∙ c.if-not-is_letter.false in
     letter_first c.args.text.now c.args.at c.requires.0 c.requires.1 (omega arith) letter c.if-text-at-ne39.false
