@@ -13,7 +13,7 @@ returns-in_default c =
     61
     tt
     c.if-second-eq61.true
-    c.in_default.rest
+    c.in_default.in_default-own.rest
 
 pub returns-then-first-second : goal.returns-then-first-second
 returns-then-first-second c =
@@ -28,4 +28,4 @@ returns-in_default-first c =
     61
     tt
     c.if-second-eq61.false
-    c.in_default-first.rest
+    c.in_default-first.in_default-first-own.rest

@@ -10,4 +10,4 @@ returns-in_default c =
     ((59 ∷ []) ∷ (44 ∷ []) ∷ (93 ∷ []) ∷ (91 ∷ []) ∷ (125 ∷ []) ∷ (123 ∷ []) ∷ (41 ∷ []) ∷ (40 ∷ []) ∷ (45 ∷ []) ∷ (33 ∷ []) ∷ (61 ∷ []) ∷ [])
     c.args.first
     tt
-    c.in_default.rest
+    c.in_default.in_default-own.rest
