@@ -6,16 +6,14 @@ use Rattle.rows.proofs.cut_row.Goals as goal
 
 pub returns : goal.returns
 returns c =
-    let past-two-at = c in
-    let past-place-of = past-two-at.before in
     row_is_lem
     _
     _
     _
-    past-two-at.two_at.ensures
+    c.two_at.ensures
     c.byte_at.ensures
     c.byte_at-2.ensures
     c.byte_at-3.ensures
     c.byte_at-4.ensures
     c.two_at-2.ensures
-    ∙ past-place-of.place_of.ensures.1
+    ∙ c.place_of-place.ensures.1

@@ -4,4 +4,4 @@ use borrow.Author.Rules.{rules}
 use Rattle.rows.proofs.rows_of.Goals as goal
 
 pub returns : goal.returns
-returns c = shown_range c.args.source c.args.rows.now c.args.state c.first_row.ensures c.row_count.ensures c.row_bytes_lem.ensures
+returns c = shown_range c.args.source c.args.rows.now c.args.state c.first_row.ensures c.row_count.ensures c.row_bytes.ensures
