@@ -184,7 +184,7 @@ fn takes_state(sign: bool, or: bool) -> bool
 
 // Where what stands before an operator is walked to, where what stands behind it is walked from, and the next state to be
 // taken.
-#[derive(Drop)]
+#[derive(Clone, Copy)]
 struct Course {
     to: usize,
     from: usize,

@@ -24,7 +24,7 @@ fn rows_of(atom: Atom, letters: usize) -> usize
 }
 
 // Where an atom's letter stands, if it is outside the alphabet.
-#[derive(Drop)]
+#[derive(Clone, Copy)]
 pub enum Stray {
     Nowhere,
     At(usize),
