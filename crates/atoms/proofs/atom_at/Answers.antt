@@ -3,12 +3,13 @@ use mathlib.Core.Path.{refl}
 use Rattle.atoms.specs.Atom.{by_read, by_c}
 use Rattle.atoms.proofs.Said.{next_word, next_other, no_test, other_word}
 use borrow.Author.Rules.{rules}
+use borrow.Enum.Refused.{opened}
 use Rattle.atoms.proofs.atom_at.Goals as goal
 
 pub returns-in_default : goal.returns-in_default
 returns-in_default c =
     let first = c.token_at-token.ensures in
-    let left = c.in_default.in_default-own.keys2 in
+    let left = (opened c.in_default.in_default-own.keys2) in
     record { right = next_other first _ refl (no_test _ left) c.refuse.ensures }
 
 pub returns-in-Read : goal.returns-in-Read
@@ -29,5 +30,5 @@ pub returns-in_default-word : goal.returns-in_default-word
 returns-in_default-word c =
     let first = c.token_at-token.ensures in
     let is = c.in-Word.is in
-    let left = c.in_default-word.in_default-word-own.keys3 in
+    let left = (opened c.in_default-word.in_default-word-own.keys3) in
     record { right = next_other first _ is (other_word _ left) c.refuse-in_default-word.ensures }

@@ -3,12 +3,13 @@ use mathlib.Core.Path.{refl}
 use Rattle.atoms.specs.Atom.{same, differs}
 use Rattle.atoms.proofs.Said.{next_sign, next_other, no_comparison, other_sign}
 use borrow.Author.Rules.{rules}
+use borrow.Enum.Refused.{opened}
 use Rattle.atoms.proofs.read_test_at.Goals as goal
 
 pub returns-in_default : goal.returns-in_default
 returns-in_default c =
     let first = c.token_at-token.ensures in
-    let left = c.in_default.in_default-own.keys2 in
+    let left = (opened c.in_default.in_default-own.keys2) in
     next_other first _ refl (no_comparison _ left) c.refuse.ensures
 
 pub returns-in-Equals : goal.returns-in-Equals
@@ -29,5 +30,5 @@ pub returns-in_default-sign : goal.returns-in_default-sign
 returns-in_default-sign c =
     let first = c.token_at-token.ensures in
     let is = c.in-Sign.is in
-    let left = c.in_default-sign.in_default-sign-own.keys3 in
+    let left = (opened c.in_default-sign.in_default-sign-own.keys3) in
     next_other first _ is (other_sign _ left) c.refuse-in_default-sign.ensures

@@ -7,12 +7,13 @@ use Rattle.atoms.specs.Atom.{a_number}
 use Rattle.atoms.proofs.Zero.{number_bytes}
 use Rattle.atoms.proofs.Said.{next_stands, next_other, no_numeral, zero_read_lem, number_refused}
 use borrow.Author.Rules.{rules}
+use borrow.Enum.Refused.{opened}
 use Rattle.atoms.proofs.zero_at.Goals as goal
 
 pub returns-in_default : goal.returns-in_default
 returns-in_default c =
     let first = c.token_at-token.ensures in
-    let left = c.in_default.in_default-own.keys2 in
+    let left = (opened c.in_default.in_default-own.keys2) in
     next_other first _ refl (no_numeral _ left) c.refuse.ensures
 
 pub returns-then-not-is_zero : goal.returns-then-not-is_zero
