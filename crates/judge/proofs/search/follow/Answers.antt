@@ -14,16 +14,16 @@ returns-then-not-suits c =
     followed_unfit c.requires _ c.row_here-row.ensures (sym c.suits.ensures ∙ c.if-not-suits.true)
 
 pub overflow_add-to : goal.overflow_add-to
-overflow_add-to c = omega (arith, below c)
+overflow_add-to c = omega (arith, goes_below c.requires _ c.row_here-row.ensures _ c.step-outcome.ensures _ _ c.in-Goes.is)
 
 pub overflow_mul-to-in-Goes : goal.overflow_mul-to-in-Goes
-overflow_mul-to-in-Goes c = omega (arith, below c)
+overflow_mul-to-in-Goes c = omega (arith, goes_below c.requires _ c.row_here-row.ensures _ c.step-outcome.ensures _ _ c.in-Goes.is)
 
 pub overflow_add-to-in-Goes : goal.overflow_add-to-in-Goes
-overflow_add-to-in-Goes c = omega (arith, below c)
+overflow_add-to-in-Goes c = omega (arith, goes_below c.requires _ c.row_here-row.ensures _ c.step-outcome.ensures _ _ c.in-Goes.is)
 
 pub mark-requires : goal.mark-requires
-mark-requires c = below c
+mark-requires c = goes_below c.requires _ c.row_here-row.ensures _ c.step-outcome.ensures _ _ c.in-Goes.is
 
 pub returns-in-Goes : goal.returns-in-Goes
 returns-in-Goes c =
