@@ -14,12 +14,8 @@ use Rattle.reader.proofs.Operators.{none_left, some_left, one_deeper, no_sign_fi
 use Prim.Native.Nat.{ℕ, ◌+◌, ◌*◌, ◌-◌, ◌<◌}
 use Rattle.reader.proofs.conditions.+conditions.Given as goal
 
--- μ-condition-at: μ-condition-at κs a = 2 * (length a.0.now - a.1.0) + 1
-
--- μ-operand-at: μ-operand-at κs a = 2 * (length a.0.now - a.1.0)
-
 abbrev pub decreases-condition_at : goal.decreases-condition_at
-decreases-condition_at l = ?
+decreases-condition_at l = 2 * (length l.text.now - l.at) + 1
 
 abbrev pub invariant-condition_at-loop-next : goal.invariant-condition_at-loop-next
 invariant-condition_at-loop-next l =
@@ -33,4 +29,4 @@ abbrev pub decreases-condition_at-loop-next : goal.decreases-condition_at-loop-n
 decreases-condition_at-loop-next l = length l.text - l.from
 
 abbrev pub decreases-operand_at : goal.decreases-operand_at
-decreases-operand_at l = ?
+decreases-operand_at l = 2 * (length l.text.now - l.at)

@@ -25,7 +25,10 @@ returns-in_default-head c =
 
 pub block_at-body-requires : goal.block_at-body-requires
 block_at-body-requires c =
-    (went_ready (c.head_at-head.ensures (alphabet_of c.settings_of-set.result.letters)) c.in-Went-head.is, (c.settings_of-set.ensures.sized, omega arith))
+    record {
+      ready = went_ready (c.head_at-head.ensures (alphabet_of c.settings_of-set.result.letters)) c.in-Went-head.is;
+      sized = (c.settings_of-set.ensures.sized, omega arith);
+    }
 
 pub returns-in_default-body : goal.returns-in_default-body
 returns-in_default-body c =

@@ -37,30 +37,13 @@ use Rattle.reader.proofs.Operators.{none_left, some_left, one_deeper, no_sign_fi
 use Rattle.reader.proofs.Peek.{not_sort, not_word, no_else_here}
 use Rattle.reader.proofs.Branches.{behind_arms, next_arm, ninth_arm, last_arm_lem}
 use Prim.Native.Nat.{ℕ, ◌+◌, ◌*◌, ◌-◌, ◌≤◌, ◌<◌}
-use Rattle.reader.proofs.statements.+block_at_branch_at_guarded_at_if_at_statement_at_statements_at_while_at.{
-  statement,
-}
 use Rattle.reader.proofs.statements.+statements.Given as goal
 
--- μ-block-at: μ-block-at κs a = 3 * (length a.0.now - a.1.0)
-
--- μ-branch-at: μ-branch-at κs a = 3 * (length a.0.now - a.1.0) + 1
-
--- μ-guarded-at: μ-guarded-at κs a = 3 * (length a.0.now - a.1.0) + 1
-
--- μ-if-at: μ-if-at κs a = 3 * (length a.0.now - a.1.0) + 2
-
--- μ-statement-at: μ-statement-at κs a = 3 * (length a.0.now - a.1.0)
-
--- μ-statements-at: μ-statements-at κs a = 3 * (length a.0.now - a.1.0) + 1
-
--- μ-while-at: μ-while-at κs a = 3 * (length a.0.now - a.1.0) + 2
-
 abbrev pub decreases-block_at : goal.decreases-block_at
-decreases-block_at l = ?
+decreases-block_at l = 3 * (length l.text.now - l.at)
 
 abbrev pub decreases-branch_at : goal.decreases-branch_at
-decreases-branch_at l = ?
+decreases-branch_at l = 3 * (length l.text.now - l.at) + 1
 
 abbrev pub invariant-branch_at-loop-next : goal.invariant-branch_at-loop-next
 invariant-branch_at-loop-next l =
@@ -76,16 +59,16 @@ abbrev pub decreases-branch_at-loop-next : goal.decreases-branch_at-loop-next
 decreases-branch_at-loop-next l = length l.text - l.from
 
 abbrev pub decreases-guarded_at : goal.decreases-guarded_at
-decreases-guarded_at l = ?
+decreases-guarded_at l = 3 * (length l.text.now - l.at) + 1
 
 abbrev pub decreases-if_at : goal.decreases-if_at
-decreases-if_at l = ?
+decreases-if_at l = 3 * (length l.text.now - l.at) + 2
 
 abbrev pub decreases-statement_at : goal.decreases-statement_at
-decreases-statement_at l = ?
+decreases-statement_at l = 3 * (length l.text.now - l.at)
 
 abbrev pub decreases-statements_at : goal.decreases-statements_at
-decreases-statements_at l = ?
+decreases-statements_at l = 3 * (length l.text.now - l.at) + 1
 
 abbrev pub invariant-statements_at-loop-end : goal.invariant-statements_at-loop-end
 invariant-statements_at-loop-end l =
@@ -99,4 +82,4 @@ abbrev pub decreases-statements_at-loop-end : goal.decreases-statements_at-loop-
 decreases-statements_at-loop-end l = length l.text - l.from
 
 abbrev pub decreases-while_at : goal.decreases-while_at
-decreases-while_at l = ?
+decreases-while_at l = 3 * (length l.text.now - l.at) + 2
