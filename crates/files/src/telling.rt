@@ -27,12 +27,12 @@ pub fn reason(alloc: Global, error: io::Error) -> Result<String, AllocError> {
 }
 
 // Says what failed of what has this name.
-pub fn fail<W: Write>(
-    alloc: Global,
+pub fn fail<R: AllocGlobal, W: Write>(
+    rt: &R,
     errors: &mut W,
     name: &[u8],
     error: io::Error,
 ) -> io::Result<()> {
-    let words = reason(alloc, error)?;
+    let words = reason(rt.alloc(), error)?;
     say(errors, name, words.as_bytes())
 }
