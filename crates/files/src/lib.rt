@@ -1,12 +1,14 @@
-// Files for programs: reading all of one, or of standard input, into a buffer, so that a failed read is never taken for an end; and
-// saying on standard error what failed.
+// Files for programs: reading all of one, or of standard input, into a buffer, so that a failed read is never taken for an end;
+// opening one by its name; and saying on standard error what failed.
 #![tactic(auto)]
 
+mod naming;
 mod telling;
 
 ghost use Rattle.std.specs.Prelude.{◌-◌, ◌<◌, min, ◌≡◌, length};
 ghost use Rattle.files.specs.Reading.{Within, IsPrefixLen, failed_of, count_of};
 
+pub use naming::{open, text};
 use std::io;
 use std::io::Read;
 pub use telling::{fail, reason, say};

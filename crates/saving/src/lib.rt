@@ -10,8 +10,8 @@ ghost use Rattle.saving.specs.Names.{nameable};
 ghost use Rattle.saving.specs.Inside.Naming.{Named, Ended, Tried};
 ghost use Rattle.saving.specs.Inside.Seen.{replaceable};
 
-use crate::seen::{Seen, Stands, at, behind, kind, same, text};
-use files::{fail, say};
+use crate::seen::{Seen, Stands, at, behind, kind, same};
+use files::{fail, say, text};
 use std::fs::{Files, OpenFile, OpenOptions, Permissions};
 use std::io::{ErrorKind, Write};
 use std::os::unix::fs::PermissionsExt;

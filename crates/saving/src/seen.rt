@@ -2,10 +2,11 @@
 ghost use Rattle.std.specs.Prelude.{◌≡◌};
 ghost use Rattle.saving.specs.Inside.Seen.{stands_of, same_file};
 
+use files::text;
 use std::fs::{Files, Metadata};
 use std::io::{Error, ErrorKind};
 use std::os::unix::fs::MetadataExt;
-use std::{fs, io, str};
+use std::{fs, io};
 
 // The four highest bits of a mode.
 const REGULAR: u32 = 8;
@@ -49,14 +50,6 @@ fn of(mode: u32, device: u64, number: u64) -> Seen
 
 fn told(metadata: &Metadata) -> Seen {
     of(metadata.mode(), metadata.dev(), metadata.ino())
-}
-
-// The library opens files by text alone.
-pub fn text(name: &[u8]) -> io::Result<&str> {
-    match str::from_utf8(name) {
-        Ok(name) => Ok(name),
-        Err(_) => Err(Error::new(ErrorKind::InvalidFilename, "a file's name must be UTF-8")),
-    }
 }
 
 // The file to which a name leads.
