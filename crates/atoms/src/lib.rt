@@ -1,4 +1,6 @@
 // The atoms of a condition: a test of the letter read, or of the counter. Which letters the alphabet has is not asked here.
+#![tactic(auto)]
+
 ghost use Rattle.std.specs.Prelude.{◌≡◌, ◌&&◌, T, leb};
 ghost use Rattle.bits.specs.Byte.{is_digit};
 ghost use Rattle.text.specs.Token.{every};

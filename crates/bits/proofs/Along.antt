@@ -18,6 +18,7 @@ module _ {A B : Type 0} (f : A → B) where
     pub image : f source ≡ y
 
   comes : {y : B} (l : List A) → Memᴰ y (map f l) → ComesFrom y l
+  comes {y = y} [] x' = elim x' [ ]
   comes (x ∷ l) (Memᴰ.head e) = record { source = x; member = Memᴰ.head refl; image = sym e }
   comes (x ∷ l) (Memᴰ.tail m) =
       let rest = comes l m in

@@ -30,11 +30,11 @@ pub tells_as : {r : Bool} {P Q : Type 0} → Tells r P → (P → Q) → (Q → 
 tells_as told there back = record { holds = λ e. there (told.holds e); fails = λ e q. told.fails e (back q) }
 
 -- a part that was asked, `if !part(..)`: where it fails the whole fails, and past that it holds
-pub refuted : {r : Bool} {P Q : Type 0} → Tells r P → not r ≡ true → (Q → P) → Tells false Q
-refuted {r} told failed part = tells_no refl (λ q. told.fails (not-true r failed) (part q))
+pub refuted : {r : Bool} {P Q : Type 0} → Tells r P → r ≡ false → (Q → P) → Tells false Q
+refuted told failed part = tells_no refl (λ q. told.fails failed (part q))
 
-pub kept : {r : Bool} {P : Type 0} → Tells r P → not r ≡ false → P
-kept {r} told passed = told.holds (not-false r passed)
+pub kept : {r : Bool} {P : Type 0} → Tells r P → r ≡ true → P
+kept told passed = told.holds passed
 
 -- a result that is a test
 pub tells_test : {r : Bool} (test : Bool) → r ≡ test → Tells r (T test)

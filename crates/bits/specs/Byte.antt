@@ -1,6 +1,5 @@
 -- The kinds of a byte, each by the range that it falls in, and the bytes of a quoted text.
 use Rattle.std.specs.Prelude.{ℕ, Bool, ◌&&◌, ◌||◌, List, [], ◌∷◌, leb}
-use Prim.Native.String
 use Prim.Native.String.{String}
 use Prim.Native.Char.{code}
 

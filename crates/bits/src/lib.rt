@@ -1,4 +1,6 @@
 // Bytes, and bits of a slice of them. Bit i is bit i mod 8, the least being 0, of byte i / 8.
+#![tactic(auto)]
+
 ghost use Rattle.std.specs.Prelude.{◌≡◌, get_or, length, replicate};
 ghost use Rattle.bits.specs.Bit.{bit, with_bit, without_bit};
 ghost use Rattle.bits.specs.Byte.{is_letter};

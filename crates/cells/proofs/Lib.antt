@@ -1,5 +1,3 @@
--- Laws of cells, and what the walks by hand share.
+-- Laws of cells, and of heads.
 pub mod Cells
-pub mod Walks
 pub mod Heads
-pub mod Marks

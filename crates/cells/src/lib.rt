@@ -1,4 +1,6 @@
 // The cells of a word: what stands on each, and where a row's move leads.
+#![tactic(auto)]
+
 pub mod head; // head.rt: a head, as a struct that holds the word
 
 ghost use Rattle.std.specs.Prelude.{◌≡◌, min};

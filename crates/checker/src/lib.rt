@@ -1,4 +1,6 @@
 // The checker of images: whether bytes are the image of a table within its ranges.
+#![tactic(auto)]
+
 mod form;
 
 ghost use Rattle.checker.specs.Check.{Checks};

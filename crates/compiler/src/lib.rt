@@ -1,5 +1,7 @@
 // From a rule's text to a table's image. Readers go over the text first and find whatever is wrong with it; the emitter goes
 // over a text that is known to be a program without faults and writes the image of its table, and never refuses.
+#![tactic(auto)]
+
 mod ahead;
 mod blocks;
 mod emit;

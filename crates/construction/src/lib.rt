@@ -1,4 +1,5 @@
 // From a program to its table, in definitions, that the two agree, and what compiling promises. The compiler writes what stands here.
+#![tactic(auto)]
 
 // The image's length and the table's states and rows, or a refusal's number and place.
 #[derive(Drop)]

@@ -1,4 +1,6 @@
 // What the firmware links: the C entries of check and judge. `include/valaiyoth.h` declares them.
+#![tactic(auto)]
+
 ghost use Rattle.checker.specs.Check.{Checks};
 ghost use Rattle.judgement.specs.Judge.{Judges};
 

@@ -1,5 +1,7 @@
 // What the fields of an image say, read where they stand.
 // A reader takes any bytes for an image; a byte past the end counts as 0.
+#![tactic(auto)]
+
 ghost use Rattle.std.specs.Prelude.{◌≡◌, ◌+◌, ◌*◌};
 ghost use Rattle.bits.specs.Bit.{bit};
 ghost use Rattle.table.specs.Form.{rows_place, bytes_of};

@@ -1,4 +1,6 @@
 // The judge: what it refuses, and the verdict and the count on what it takes.
+#![tactic(auto)]
+
 mod pending;
 mod search;
 

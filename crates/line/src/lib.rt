@@ -1,4 +1,6 @@
 // The lines that the programs compile and verdict print, each into a buffer that holds the longest.
+#![tactic(auto)]
+
 mod compile;
 mod parts;
 mod verdict;

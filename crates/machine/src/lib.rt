@@ -1,4 +1,6 @@
 // One row's step: whether it can be taken, and what it comes to within a limit.
+#![tactic(auto)]
+
 ghost use Rattle.std.specs.Prelude.{◌≡◌, ◌&&◌, ◌+◌, length, get_or, ltb, eqb};
 ghost use Rattle.std.proofs.Math.Option.{some};
 ghost use Rattle.table.specs.Fields.{table_of};

@@ -1,4 +1,6 @@
 // What the office's own tools link: the C entry of compile. `include/valaiyoth.h` declares it.
+#![tactic(auto)]
+
 ghost use Rattle.construction.specs.Compile.{CompilesTo};
 
 use construction::Answer;

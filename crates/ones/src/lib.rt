@@ -1,4 +1,6 @@
 // How many bits of a slice of bytes are set, and whether none is.
+#![tactic(auto)]
+
 ghost use Rattle.std.specs.Prelude.{◌≡◌, ◌+◌, ◌≤◌, min, length, take};
 ghost use Rattle.bits.specs.Tells.{Tells};
 ghost use Rattle.ones.specs.Blank.{Blank};

@@ -1,5 +1,7 @@
 // What the programs compile and verdict answer, from the bytes that they read to the line that they print. Each buffer has its
 // length by its type, so that of the programs themselves only the system calls are left.
+#![tactic(auto)]
+
 mod compile;
 mod digits;
 mod part;

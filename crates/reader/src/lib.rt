@@ -1,4 +1,6 @@
 // Reading a rule: its grammar, its limits, and how many states and rows it takes. The readers lend no buffer.
+#![tactic(auto)]
+
 mod answers;
 mod conditions;
 mod letters;

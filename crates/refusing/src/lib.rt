@@ -1,4 +1,6 @@
 // Why an image, a word and a limit are refused, 21 to 24: what every entry that judges asks first.
+#![tactic(auto)]
+
 ghost use mathlib.Core.List.{Memᴰ};
 ghost use Rattle.std.specs.Prelude.{◌≡◌, length};
 ghost use Rattle.table.specs.Fields.{letters_of, table_of};

@@ -1,5 +1,7 @@
 // The rows of an image, read where they stand, and where a source shows those that leave a state.
 // A reader takes any bytes for rows; a byte past the end counts as 0.
+#![tactic(auto)]
+
 ghost use Rattle.std.specs.Prelude.{◌≡◌, ◌+◌, ◌*◌, ◌-◌, ◌≤◌, length, eqb};
 ghost use Rattle.table.specs.Table.{Row};
 ghost use Rattle.table.specs.Form.{wide};

@@ -23,4 +23,5 @@ atom_ends (atom a) = counter_ends a
 pub not_ends : {o p q r : ℕ} {n : List ℕ} {ts us : Ts} {c : Condition}
     → IsCondition tightest ((s "!" at o) ∷ (w "c" at p) ∷ (s "==" at q) ∷ (number n at r) ∷ ts) c us
     → us ≡ ts
+not_ends {o = o} {p = p} {q = q} {r = r} {n = n} {ts = ts} {us = us} (atom {a = a} x4) = elim x4 [ ]
 not_ends (negation h) = atom_ends h

@@ -1,1 +1,2 @@
 // The samples of the language's description, held to the definitions.
+#![tactic(auto)]

@@ -11,7 +11,6 @@ use lib.Seq.{length-take-le, get_or-take, get_or-drop}
 use Rattle.bits.specs.Bit.{bit, Bytes}
 use Rattle.bits.proofs.Change.{bit_past}
 use Rattle.table.specs.Form.{letters_place, decr_on_zero_place, states_place, accepting_place, accepting_bytes, rows_place, rows_length, wide, bytes_of, rows_in, width_for}
-use Rattle.table.specs.Table.{Row}
 use Rattle.table.specs.Fields.{byte_at, two_at, letters_of, letter_of, width_of, row_place, row_from, row_of, row_count, table_of}
 use Rattle.table.specs.RowCode.{row_is}
 use Rattle.table.specs.declared.Row as Code

@@ -35,6 +35,7 @@ single_at_zero = single_because (λ p q a b. a.0 ∙ sym b.0)
 -- the first of single reasons gives one number and place
 pub first_once : {n m p q : ℕ} (rs : List Reason) → Each Single rs → First rs n p → First rs m q → (n ≡ m) × (p ≡ q)
 unfolding First
+first_once {n = n} {m = m} {p = p} {q = q} [] one x3 _ = elim x3 [ ]
 first_once (r ∷ rs) one (inl a) (inl b) = (one.0.number a b, one.0.place a b)
 first_once (r ∷ rs) one (inl a) (inr b) = absurd (b.0 _ _ a)
 first_once (r ∷ rs) one (inr a) (inl b) = absurd (a.0 _ _ b)
@@ -43,6 +44,7 @@ first_once (r ∷ rs) one (inr a) (inr b) = first_once rs one.1 a.1 b.1
 -- what each of the reasons gives has Q, so what the first that holds gives has it
 pub first_has : (Q : ℕ → ℕ → Type 0) {n p : ℕ} (rs : List Reason) → Each (Gives Q) rs → First rs n p → Q n p
 unfolding First
+first_has Q {n = n} {p = p} [] each x'' = elim x'' [ ]
 first_has Q (r ∷ rs) each (inl a) = each.0 _ _ a
 first_has Q (r ∷ rs) each (inr a) = first_has Q rs each.1 a.1
 
@@ -63,6 +65,7 @@ each_append P (r ∷ rs) qs front behind = (front.0, each_append P rs qs front.1
 -- a first reason of the front is the first of both
 pub first_front : (n p : ℕ) (rs qs : List Reason) → First rs n p → First (rs ++ qs) n p
 unfolding First
+first_front n p [] qs x' = elim x' [ ]
 first_front n p (r ∷ rs) qs (inl a) = inl a
 first_front n p (r ∷ rs) qs (inr a) = inr (a.0, first_front n p rs qs a.1)
 
@@ -95,6 +98,7 @@ NumbersRise (r ∷ rs) = Each (Gives (λ m q. (n p : ℕ) → r n p → n < m)) 
 
 -- what a reason of the list gives has Q, if each does
 some_has : (Q : ℕ → ℕ → Type 0) {n p : ℕ} (rs : List Reason) → Each (Gives Q) rs → Some rs n p → Q n p
+some_has Q {n = n} {p = p} [] each x'' = elim x'' [ ]
 some_has Q (r ∷ rs) each (inl a) = each.0 _ _ a
 some_has Q (r ∷ rs) each (inr a) = some_has Q rs each.1 a
 
@@ -102,6 +106,7 @@ some_has Q (r ∷ rs) each (inr a) = some_has Q rs each.1 a
 pub first_least
     : (n m p q : ℕ) (rs : List Reason) → Each Single rs → NumbersRise rs → First rs n p → Some rs m q → n ≤ m
 unfolding First
+first_least n m p q [] one rise x4 _ = elim x4 [ ]
 first_least n m p q (r ∷ rs) one rise (inl a) (inl b) = omega (arith, one.0.number a b)
 first_least n m p q (r ∷ rs) one rise (inl a) (inr b) =
     omega (arith, some_has (λ m q. (n p : ℕ) → r n p → n < m) rs rise.0 b n p a)

@@ -64,6 +64,7 @@ row_in image i (suc n) j low high =
 
 row_number : {r : Row} (image : List ℕ) (i n : ℕ) → Memᴰ r (rows_from image i n) → (j : ℕ) × (j < i + n) × (r ≡ row_of image j)
 unfolding rows_from
+row_number {r = r} image i zero x' = elim x' [ ]
 row_number image i (suc n) (Memᴰ.head e) = (i, omega arith, e)
 row_number image i (suc n) (Memᴰ.tail m) = let found = row_number image (suc i) n m in (found.0, omega (arith, found.1), found.2)
 

@@ -1,29 +1,8 @@
 -- What the fields of an image say, read byte by byte where they stand, whatever the bytes are; a byte past the end counts as 0.
 -- Of a well-formed image this is its table.
-use Rattle.std.specs.Prelude.{ℕ, zero, suc, ◌+◌, ◌*◌, ◌/◌, ◌≤◌, ◌<◌, ◌≡◌, Bool, true, false, List, [], ◌∷◌, length, get_or, take, drop, T, eqb}
-use Rattle.bits.specs.Byte.{is_letter}
-use Rattle.table.specs.Form.{
-  edition_place,
-  alphabet_tag,
-  count_place,
-  letters_place,
-  decr_on_zero_tag,
-  decr_on_zero_place,
-  states_tag,
-  states_place,
-  accepting_tag,
-  accepting_place,
-  accepting_bytes,
-  rows_tag,
-  rows_length,
-  rows_place,
-  Width,
-  bytes_of,
-  rows_in,
-  width_for,
-}
+use Rattle.std.specs.Prelude.{ℕ, zero, suc, ◌+◌, ◌*◌, List, [], ◌∷◌, get_or, take, drop, eqb}
+use Rattle.table.specs.Form.{edition_place, count_place, letters_place, decr_on_zero_place, states_place, accepting_place, accepting_bytes, rows_length, rows_place, Width, bytes_of, rows_in, width_for}
 use Rattle.table.specs.Table.{Row, Table}
-use Rattle.table.specs.Image.{edition}
 
 abbrev pub byte_at : List ℕ → ℕ → ℕ
 byte_at image i = get_or image i 0

@@ -1,4 +1,6 @@
 // A table's image, for code that reads or writes one: its form, a row, and what a source of rows is. What reads them are `fields` and `rows`.
+#![tactic(auto)]
+
 pub mod form; // form.rt: the places of the fields, and the codes in a row
 pub mod source; // source.rt: where a search finds the rows that leave a state
 

@@ -8,9 +8,6 @@ use Rattle.text.specs.Tokens.{Placed, ◌at◌, Ending, ends, broken, Tokens}
 use Rattle.text.specs.Tokens as Of
 use Rattle.text.specs.First.{Begins, FirstToken}
 use Rattle.text.specs.declared.Token.{Token}
-use Rattle.text.specs.declared.Token.TheVariants as Token
-use Rattle.text.specs.declared.Word.{Word}
-use Rattle.text.specs.declared.Word.TheVariants as Word
 use Rattle.text.proofs.Once.{comes}
 use Rattle.text.proofs.Ending.{EndsAt, ends_from}
 

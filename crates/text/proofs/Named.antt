@@ -7,7 +7,6 @@ use Rattle.bits.proofs.Tests.{same_list_lem}
 use Rattle.bits.specs.Inside.Same.{same_list}
 use Rattle.text.specs.First.{Name, reserved, unreserved, name, IsNamed, IsWord}
 use Rattle.text.specs.declared.Word.{Word}
-use Rattle.text.specs.declared.Word.TheVariants as Word
 use Rattle.text.proofs.Runs.{true_T}
 
 -- the reserved words as they are compared, the last first: those of a program's head, of plain statements, of statements that

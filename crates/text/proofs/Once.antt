@@ -10,7 +10,6 @@ use Rattle.text.specs.Token as Spec
 use Rattle.text.specs.Tokens.{Placed, ◌at◌, Ending, ends, broken, Tokens}
 use Rattle.text.specs.First.{part, Next, Begins, FirstToken}
 use Rattle.text.specs.declared.Token.{Token}
-use Rattle.text.specs.declared.Token.TheVariants as Token
 use Rattle.text.proofs.Named.{all_words, found, word_is}
 use Rattle.text.proofs.Signed.{sign_of, all_signs, sign-is}
 use Rattle.text.proofs.Tokens.{tokens_once}

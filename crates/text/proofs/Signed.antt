@@ -13,7 +13,6 @@ use Rattle.bits.specs.Inside.Same.{same_list}
 use Rattle.text.specs.Token.{signs}
 use Rattle.text.specs.First.{written}
 use Rattle.text.specs.declared.Sign.{Sign}
-use Rattle.text.specs.declared.Sign.TheVariants as Sign
 use Rattle.text.specs.Inside.Scan.{longest_of}
 use Rattle.text.proofs.Runs.{T_either, longest_of_bound, longest_of_found, longest_of_fits}
 

@@ -96,6 +96,7 @@ no_feed (a_number first rest) (Memᴰ.tail m) = at_each is_digit m rest
 no_feed (a_letter {b = b} is) m = letters m
   where
     letters : Memᴰ line_feed (quote ∷ b ∷ quote ∷ []) → ⊥
+    letters (Memᴰ.tail (Memᴰ.tail (Memᴰ.tail x16))) = elim x16 [ ]
     letters (Memᴰ.head e) = absurd (omega (arith, e))
     letters (Memᴰ.tail (Memᴰ.head e)) = subst (λ (x : ℕ). T (is_letter x)) (sym e) is
     letters (Memᴰ.tail (Memᴰ.tail (Memᴰ.head e))) = absurd (omega (arith, e))

@@ -5,11 +5,8 @@ use Rattle.text.specs.Token.{word, number, letter, sign, Spells}
 use Rattle.text.specs.Token as Spec
 use Rattle.text.specs.Tokens.{Placed, ◌at◌, Ending, ends, broken, Tokens}
 use Rattle.text.specs.declared.Word.{Word}
-use Rattle.text.specs.declared.Word.TheVariants as Word
 use Rattle.text.specs.declared.Sign.{Sign}
-use Rattle.text.specs.declared.Sign.TheVariants as Sign
 use Rattle.text.specs.declared.Token.{Token}
-use Rattle.text.specs.declared.Token.TheVariants as Token
 
 -- how a word may be written: in one way, if it is reserved, or in any other
 pub data Name : Type 0 where

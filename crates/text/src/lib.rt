@@ -1,4 +1,5 @@
 // What the tokens of a text are, in definitions and their laws, and the types that name them in code.
+#![tactic(auto)]
 
 // The reserved words, and Other for a word that is not reserved.
 #[derive(Drop)]

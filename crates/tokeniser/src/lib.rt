@@ -1,4 +1,6 @@
 // The tokens of a text, one at a time: whoever reads a text asks for what comes first from a byte on, and goes on where that ends.
+#![tactic(auto)]
+
 ghost use Rattle.text.specs.First.{FirstToken};
 
 mod ends; // where a run of bytes ends
