@@ -1,5 +1,5 @@
 -- Bytes that stand at the beginning of a buffer, and bytes that are added behind them.
-use Rattle.std.specs.Prelude.{ℕ, ◌+◌, ◌≡◌, List, ◌++◌, length, take, drop, ◌≤◌}
+use Rattle.std.specs.Prelude.{ℕ, ◌≡◌, List, ◌++◌, length, take, drop, ◌≤◌}
 
 -- these bytes stand there, up to this place, and then the old ones
 pub record Stands (old out : List ℕ) (end : ℕ) (bytes : List ℕ) : Type 0 where
