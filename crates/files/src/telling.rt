@@ -33,6 +33,8 @@ pub fn fail<R: AllocGlobal, W: Write>(
     name: &[u8],
     error: io::Error,
 ) -> io::Result<()> {
-    let words = reason(rt.alloc(), error)?;
-    say(errors, name, words.as_bytes())
+    match reason(rt.alloc(), error) {
+        Ok(words) => say(errors, name, words.as_bytes()),
+        Err(_) => say(errors, name, b"Cannot allocate memory"),
+    }
 }
