@@ -12,27 +12,27 @@ use text::{Sign, Token, Word};
 use tokeniser::token_at;
 
 // A number from 1 to 11, and the place in the text.
-#[derive(Drop)]
+#[derive(Clone, Copy)]
 pub struct Refusal {
     pub number: usize,
     pub place: usize,
 }
 
 // What `read` is compared with. A letter keeps its place: one outside the alphabet is refused there.
-#[derive(Drop)]
+#[derive(Clone, Copy)]
 pub enum Symbol {
     Letter { byte: u8, place: usize },
     Lend,
     Rend,
 }
 
-#[derive(Drop)]
+#[derive(Clone, Copy)]
 pub enum Atom {
     Read { equal: bool, symbol: Symbol },
     Counter { zero: bool },
 }
 
-#[derive(Drop)]
+#[derive(Clone, Copy)]
 pub enum AtomRead {
     Found { atom: Atom, at: usize },
     Refused(Refusal),

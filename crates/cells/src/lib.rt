@@ -9,7 +9,7 @@ ghost use Rattle.cells.specs.Code.{symbol_is};
 
 use table::form;
 
-#[derive(Drop)]
+#[derive(Clone, Copy)]
 pub enum Symbol {
     LeftMark,
     Letter(u8),

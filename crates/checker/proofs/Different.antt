@@ -21,6 +21,8 @@ nodup_of (x ∷ l) apart =
     (nodup_of l (λ c low d before. apart (suc c) (suc-le-suc low) (suc d) (suc-le-suc before)))
 
 pub of_nodup : (l : List ℕ) → Nodup l → Different l
+of_nodup [] _ c low d before e = elim low [ ]
+of_nodup (x ∷ l) (Pairwise.cons apart once) zero low d before e = elim before [ ]
 of_nodup (x ∷ l) (Pairwise.cons apart once) (suc c) low zero before e =
     apart (get_or l c 0) ∣ member_at l c (le_of_suc-le-suc low) ∣₁ e
 of_nodup (x ∷ l) (Pairwise.cons apart once) (suc c) low (suc d) before e =

@@ -7,7 +7,7 @@ use super::see::see;
 use text::Sign;
 
 // What a sign says, with so many parentheses open: the answer, or to go on with so many open.
-#[derive(Drop)]
+#[derive(Clone, Copy)]
 enum Looked {
     Answer(bool),
     On(usize),

@@ -10,7 +10,7 @@ use super::{Place, write};
 use text::{Sign, Word};
 
 // A block, and a free row from its exit.
-#[cycle(emit_arms_emit_block_emit_branch_emit_else_emit_if_emit_statement_emit_statements_emit_while)]
+#[cycle(blocks)]
 fn emit_block(text: &[u8], out: &mut [u8], place: Place, to: usize) -> Place
     requires { Ready (BodyTask to) text.now out.old place }
     ensures { Emits (BodyTask to) text.now out.old out.new place result }
@@ -32,7 +32,7 @@ fn emit_block(text: &[u8], out: &mut [u8], place: Place, to: usize) -> Place
 }
 
 // `else` and its block, or nothing; then a free row.
-#[cycle(emit_arms_emit_block_emit_branch_emit_else_emit_if_emit_statement_emit_statements_emit_while)]
+#[cycle(blocks)]
 fn emit_else(text: &[u8], out: &mut [u8], place: Place, to: usize) -> Place
     requires { Ready (ElseTask to) text.now out.old place }
     ensures { Emits (ElseTask to) text.now out.old out.new place result }
@@ -59,7 +59,7 @@ fn emit_else(text: &[u8], out: &mut [u8], place: Place, to: usize) -> Place
 }
 
 // if ( cond ) block, with an optional else block. Each of the statements below starts behind its first word.
-#[cycle(emit_arms_emit_block_emit_branch_emit_else_emit_if_emit_statement_emit_statements_emit_while)]
+#[cycle(blocks)]
 fn emit_if(text: &[u8], out: &mut [u8], place: Place) -> Place
     requires { Ready (HeadedTask (w "if")) text.now out.old place }
     ensures { Emits (HeadedTask (w "if")) text.now out.old out.new place result }
@@ -112,7 +112,7 @@ fn emit_entry(text: &[u8], out: &mut [u8], place: Place, into: usize, over: usiz
 }
 
 // while ( cond ) block and while choose block
-#[cycle(emit_arms_emit_block_emit_branch_emit_else_emit_if_emit_statement_emit_statements_emit_while)]
+#[cycle(blocks)]
 fn emit_while(text: &[u8], out: &mut [u8], place: Place) -> Place
     requires { Ready (HeadedTask (w "while")) text.now out.old place }
     ensures { Emits (HeadedTask (w "while")) text.now out.old out.new place result }
@@ -142,7 +142,7 @@ fn emit_while(text: &[u8], out: &mut [u8], place: Place) -> Place
 }
 
 // Arms, behind the word before the first of them.
-#[cycle(emit_arms_emit_block_emit_branch_emit_else_emit_if_emit_statement_emit_statements_emit_while)]
+#[cycle(blocks)]
 fn emit_arms(text: &[u8], out: &mut [u8], place: Place, to: usize) -> Place
     requires { Ready (ArmsTask to) text.now out.old place }
     ensures { Emits (ArmsTask to) text.now out.old out.new place result }
@@ -172,7 +172,7 @@ fn emit_arms(text: &[u8], out: &mut [u8], place: Place, to: usize) -> Place
 }
 
 // branch block also block ..
-#[cycle(emit_arms_emit_block_emit_branch_emit_else_emit_if_emit_statement_emit_statements_emit_while)]
+#[cycle(blocks)]
 fn emit_branch(text: &[u8], out: &mut [u8], place: Place) -> Place
     requires { Ready (HeadedTask (w "branch")) text.now out.old place }
     ensures { Emits (HeadedTask (w "branch")) text.now out.old out.new place result }
@@ -196,7 +196,7 @@ fn emit_accept(text: &[u8], out: &mut [u8], place: Place) -> Place
     emit_stop(text, place)
 }
 
-#[cycle(emit_arms_emit_block_emit_branch_emit_else_emit_if_emit_statement_emit_statements_emit_while)]
+#[cycle(blocks)]
 fn emit_statement(text: &[u8], out: &mut [u8], place: Place) -> Place
     requires { Ready StatementTask text.now out.old place }
     ensures { Emits StatementTask text.now out.old out.new place result × (place.at < result.at) }
@@ -222,7 +222,7 @@ fn emit_statement(text: &[u8], out: &mut [u8], place: Place) -> Place
 }
 
 // What is left of a block, and its brace.
-#[cycle(emit_arms_emit_block_emit_branch_emit_else_emit_if_emit_statement_emit_statements_emit_while)]
+#[cycle(blocks)]
 pub fn emit_statements(text: &[u8], out: &mut [u8], place: Place) -> Place
     requires { Ready RestTask text.now out.old place }
     ensures { Emits RestTask text.now out.old out.new place result }

@@ -18,7 +18,7 @@ use reader::Reading;
 
 // Where the emitter stands: how far it has come in the text, the state that the next statement starts at, the next state
 // to be taken, and the byte of the image at which the next row is written.
-#[derive(Drop)]
+#[derive(Clone, Copy)]
 pub struct Place {
     pub at: usize,
     pub state: usize,

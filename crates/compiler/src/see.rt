@@ -9,7 +9,7 @@ use tokeniser::token_at;
 
 // What stands at a place: which word, or Other; which sign, or the semicolon, at which nothing is decided; a letter's
 // byte, or 0; and the token's bytes, text[start..end]. Where no token stands it ends where it was looked for.
-#[derive(Drop)]
+#[derive(Clone, Copy)]
 pub struct Seen {
     pub word: Word,
     pub sign: Sign,

@@ -7,7 +7,7 @@ use table::form;
 use text::{Sign, Word};
 
 // The place behind the `]`, and how many letters there are.
-#[derive(Drop)]
+#[derive(Clone, Copy)]
 struct Listed {
     at: usize,
     count: usize,
@@ -49,7 +49,7 @@ fn truth(text: &[u8], at: usize) -> bool
 }
 
 // The place behind the settings, how many letters there are, and `decr_on_zero`.
-#[derive(Drop)]
+#[derive(Clone, Copy)]
 struct Settled {
     at: usize,
     count: usize,

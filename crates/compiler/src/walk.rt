@@ -134,7 +134,7 @@ fn emit_atom(text: &[u8], out: &mut [u8], place: Place, to: usize, sign: bool) -
 }
 
 // What binds tightest: an atom, a negation, a condition in parentheses.
-#[cycle(emit_chain_emit_operand_emit_side)]
+#[cycle(walk)]
 fn emit_operand(text: &[u8], out: &mut [u8], place: Place, to: usize, sign: bool) -> Place
     requires { Ready (WalkTask tightest to sign) text.now out.old place }
     ensures { Emits (WalkTask tightest to sign) text.now out.old out.new place result }
@@ -163,7 +163,7 @@ fn emit_operand(text: &[u8], out: &mut [u8], place: Place, to: usize, sign: bool
 }
 
 // What an operator joins: of `||` what `&&` joins, of `&&` what binds tightest.
-#[cycle(emit_chain_emit_operand_emit_side)]
+#[cycle(walk)]
 fn emit_side(text: &[u8], out: &mut [u8], place: Place, to: usize, sign: bool, or: bool) -> Place
     requires { Ready (WalkTask (joined or) to sign) text.now out.old place }
     ensures { Emits (WalkTask (joined or) to sign) text.now out.old out.new place result }
@@ -184,7 +184,7 @@ fn takes_state(sign: bool, or: bool) -> bool
 
 // Where what stands before an operator is walked to, where what stands behind it is walked from, and the next state to be
 // taken.
-#[derive(Drop)]
+#[derive(Clone, Copy)]
 struct Course {
     to: usize,
     from: usize,
@@ -211,7 +211,7 @@ fn way(place: Place, to: usize, taking: bool) -> Course
 }
 
 // What `||` joins, or, if `or` is false, what `&&` joins. Both group to the right.
-#[cycle(emit_chain_emit_operand_emit_side)]
+#[cycle(walk)]
 fn emit_chain(text: &[u8], out: &mut [u8], place: Place, to: usize, sign: bool, or: bool) -> Place
     requires { Ready (WalkTask (joins or) to sign) text.now out.old place }
     ensures { Emits (WalkTask (joins or) to sign) text.now out.old out.new place result }

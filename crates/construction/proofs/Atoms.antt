@@ -150,7 +150,7 @@ module _ (alphabet : List ℕ) (few : length alphabet ≤ 16) where
       symbols_pass xs f m =
           record {
             row = test_row (code_of alphabet s) either_counter p q;
-            listed = mem-symbol_rows xs p q (code_of alphabet s) m;
+            listed = mem-symbol_rows (code_of alphabet s) xs p q m;
             symbol = fits_code (code_of alphabet s) s (f.at (code_of alphabet s) m) known ∙ eq-eqb (code_of alphabet s) (code_of alphabet s) refl;
             test = counter_either counter;
           }

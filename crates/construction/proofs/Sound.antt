@@ -42,7 +42,7 @@ use Rattle.construction.proofs.Conditions.{
   atom_between,
 }
 use Rattle.construction.proofs.Trial.{Trial, comes_inside, comes_low}
-use Rattle.construction.proofs.Roles.{Role, leaves, knows, walk_roles, test_roles, given_first, given_rest}
+use Rattle.construction.proofs.Roles.{Role, leaves, knows, walk_roles, test_roles, Given, given_first, given_rest}
 
 -- the program has come to what a role says, on this cell with this counter
 pub data Here (p : Program) (word : List ℕ) (limit : ℕ) : Role → ℕ → ℕ → Type 0 where
@@ -172,6 +172,7 @@ module _ (x : Trial) (role : ℕ → Role) where
   -- what a test adds is sound, and the states after it have these roles
   pub record Tested (added : Added) (more : List Role) : Type 0 where
     pub rows : Every Sound added.rows
+    pub given : Given role added.next more
 
   -- one such, and then another
   tested_append :
@@ -185,8 +186,8 @@ module _ (x : Trial) (role : ℕ → Role) where
   record Walked (w : Walk) (roles : Role → List Role → List Role) (A : ℕ → ℕ → Type 0) : Type 0 where
     walked :
         (a b next : ℕ) (more : List Role)
-        →
-        ((cell counter : ℕ) → A cell counter → At a cell counter → At b cell counter)
+        → Given role next (roles (role a) more)
+        → ((cell counter : ℕ) → A cell counter → At a cell counter → At b cell counter)
         → Tested (w a b next) more
 
   -- and if something follows that does
@@ -314,13 +315,13 @@ module _ (x : Trial) (role : ℕ → Role) where
       → role s ≡ leaves (a then rest)
       → role u ≡ leaves k
       → role v ≡ leaves k'
-      →
-      ((symbol : Symbol) (counter : ℕ) → holds symbol counter c ≡ true → Continues symbol counter a rest k)
+      → Given role next (test_roles c (leaves (a then rest)) more)
+      → ((symbol : Symbol) (counter : ℕ) → holds symbol counter c ≡ true → Continues symbol counter a rest k)
       → ((symbol : Symbol) (counter : ℕ) → holds symbol counter c ≡ false → Continues symbol counter a rest k')
       → Tested (test t.alphabet c s u v next) more
   unfolding test test_roles
-  tests_sound c s u v next {more = more} within left right right' f g =
+  tests_sound c s u v next {more = more} within left right right' given f g =
       let here = turn_by c s u left right f in
       let there = turn_by c s v left right' g in
-      let holding = (walk_sound c true within).walked s u next (walk_roles c false (role s) more) (rw left 𝓛) here in
+      let holding = (walk_sound c true within).walked s u next (walk_roles c false (role s) more) (rw left given) here in
       tested_append holding ((walk_sound c false within).walked s v _ more holding.given there)

@@ -242,10 +242,10 @@ length_others alphabet x few within =
 
 -- there is one row for each of the symbols
 pub mem-symbol_rows :
-    (xs : List ℕ) (p q x : ℕ) → Memᴰ x xs → Memᴰ (test_row x either_counter p q) (symbol_rows xs p q)
+    (x : ℕ) (xs : List ℕ) (p q : ℕ) → Memᴰ x xs → Memᴰ (test_row x either_counter p q) (symbol_rows xs p q)
 unfolding symbol_rows
-mem-symbol_rows xs p q x (Memᴰ.head e) = Memᴰ.head (ap (λ (y : ℕ). test_row y either_counter p q) e)
-mem-symbol_rows xs p q x (Memᴰ.tail {xs = ys} m) = Memᴰ.tail (mem-symbol_rows ys p q x m)
+mem-symbol_rows x xs p q (Memᴰ.head e) = Memᴰ.head (ap (λ (y : ℕ). test_row y either_counter p q) e)
+mem-symbol_rows x xs p q (Memᴰ.tail {xs = ys} m) = Memᴰ.tail (mem-symbol_rows x ys p q m)
 
 -- and no other row
 pub symbol_rows-mem :

@@ -2,7 +2,7 @@
 #![tactic(auto)]
 
 // The image's length and the table's states and rows, or a refusal's number and place.
-#[derive(Drop)]
+#[derive(Clone, Copy)]
 pub enum Answer {
     Compiled {
         bytes: usize,

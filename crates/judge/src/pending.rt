@@ -10,7 +10,7 @@ ghost use Rattle.judge.specs.Inside.Inner.{FirstSet, Guess, TryRight, Picked};
 pub const SITUATIONS: usize = 262144;
 
 // What following a hint comes to: a pending situation, a hint that was dropped, or no hint.
-#[derive(Drop)]
+#[derive(Clone, Copy)]
 pub enum Try {
     Found(usize),
     Stale,

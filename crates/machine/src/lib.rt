@@ -14,7 +14,7 @@ use cells::{Symbol, head};
 use table::{Row, form};
 
 // What a row's step comes to: a cell and a counter, or the row can't be taken, or it would pass the limit.
-#[derive(Drop)]
+#[derive(Clone, Copy)]
 pub enum Outcome {
     Goes { cell: usize, counter: usize },
     Blocked,

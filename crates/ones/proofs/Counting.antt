@@ -64,6 +64,7 @@ pick_once (suc d) n low once =
 module _ (f : ℕ → ℕ) (digit : (i : ℕ) → f i < 2) where
   picked_below : (n x : ℕ) → Memᴰ x (picked f n) → x < n
   unfolding picked
+  picked_below zero x m = elim m [ ]
   picked_below (suc n) x m =
       ⊎_elim
       (λ (w : (x ≡ n) × (1 ≤ f n)). omega arith)
@@ -72,6 +73,7 @@ module _ (f : ℕ → ℕ) (digit : (i : ℕ) → f i < 2) where
 
   picked_only : (n x : ℕ) → Memᴰ x (picked f n) → f x ≡ 1
   unfolding picked
+  picked_only zero x m = elim m [ ]
   picked_only (suc n) x m =
       ⊎_elim
       (λ (w : (x ≡ n) × (1 ≤ f n)). rw w.0 (omega (arith, digit n)))

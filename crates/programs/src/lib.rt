@@ -12,14 +12,14 @@ pub use digits::limit_said;
 pub use verdict::judge_word;
 
 // How many bytes of the image there are, none where the text was refused, and how many of the line.
-#[derive(Drop)]
+#[derive(Clone, Copy)]
 pub struct Answered {
     pub image: usize,
     pub line: usize,
 }
 
 // The limit that digits say.
-#[derive(Drop)]
+#[derive(Clone, Copy)]
 pub enum Limit {
     Said(u64),
     Unsaid,

@@ -10,7 +10,7 @@ use text::Token;
 use tokeniser::token_at;
 
 // The states and rows so far.
-#[derive(Drop)]
+#[derive(Clone, Copy)]
 pub struct Counts {
     pub states: usize,
     pub rows: usize,
@@ -28,7 +28,7 @@ impl Counts {
     }
 }
 
-#[derive(Drop)]
+#[derive(Clone, Copy)]
 pub enum Read {
     Went { at: usize, counts: Counts },
     Refused(Refusal),

@@ -24,7 +24,7 @@ fn rows_of(atom: Atom, letters: usize) -> usize
 }
 
 // Where an atom's letter stands, if it is outside the alphabet.
-#[derive(Drop)]
+#[derive(Clone, Copy)]
 pub enum Stray {
     Nowhere,
     At(usize),
@@ -65,7 +65,7 @@ fn counted_atom_at(text: &[u8], at: usize, counts: Counts, letters: Letters) -> 
 }
 
 // One operand; so many `(` and `!` may still be opened.
-#[cycle(condition_at_operand_at)]
+#[cycle(conditions)]
 pub fn operand_at(text: &[u8], at: usize, counts: Counts, letters: Letters, left: usize) -> Read
     requires ready { Ready text.now at counts }
     requires sized { Sized letters × (left ≤ 16) }
@@ -98,7 +98,7 @@ pub fn operand_at(text: &[u8], at: usize, counts: Counts, letters: Letters, left
 }
 
 // Operands with `&&` and `||` between them, up to the `)` and past it.
-#[cycle(condition_at_operand_at)]
+#[cycle(conditions)]
 pub fn condition_at(text: &[u8], at: usize, counts: Counts, letters: Letters, left: usize) -> Read
     requires ready { Ready text.now at counts }
     requires sized { Sized letters × (left ≤ 16) }

@@ -3,7 +3,7 @@ ghost use Rattle.std.specs.Prelude.{◌≡◌, [], ◌∷◌, ◌++◌, ◌<◌}
 ghost use Rattle.rule.specs.Limits.{is_in};
 ghost use Rattle.reader.specs.Inside.Answers.{alphabet_of, Sized};
 
-#[derive(Drop)]
+#[derive(Clone, Copy)]
 pub struct Letters {
     pub bytes: [u8; 16],
     pub count: usize,

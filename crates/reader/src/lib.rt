@@ -15,7 +15,7 @@ ghost use Rattle.reader.specs.Reading.{ReadsTo};
 use answers::Read;
 use programs::program_of;
 
-#[derive(Drop)]
+#[derive(Clone, Copy)]
 pub enum Reading {
     Taken { states: usize, rows: usize },
     Refused { number: usize, place: usize },

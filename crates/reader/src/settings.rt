@@ -11,7 +11,7 @@ use text::{Sign, Token, Word};
 use tokeniser::token_at;
 
 // An answer, and the letters so far.
-#[derive(Drop)]
+#[derive(Clone, Copy)]
 pub struct Settings {
     pub read: Read,
     pub letters: Letters,

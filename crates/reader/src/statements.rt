@@ -14,7 +14,7 @@ use text::{Sign, Token, Word};
 use tokeniser::token_at;
 
 // A block; so many may still be opened.
-#[cycle(block_at_branch_at_guarded_at_if_at_statement_at_statements_at_while_at)]
+#[cycle(statements)]
 pub fn block_at(text: &[u8], at: usize, counts: Counts, letters: Letters, left: usize) -> Read
     requires ready { Ready text.now at counts }
     requires sized { Sized letters × (left ≤ 16) }
@@ -39,7 +39,7 @@ pub fn block_at(text: &[u8], at: usize, counts: Counts, letters: Letters, left: 
 }
 
 // The statements of a block, up to the `}` and past it.
-#[cycle(block_at_branch_at_guarded_at_if_at_statement_at_statements_at_while_at)]
+#[cycle(statements)]
 fn statements_at(text: &[u8], at: usize, counts: Counts, letters: Letters, left: usize) -> Read
     requires ready { Ready text.now at counts }
     requires sized { Sized letters × (left ≤ 16) }
@@ -73,7 +73,7 @@ fn statements_at(text: &[u8], at: usize, counts: Counts, letters: Letters, left:
 }
 
 // One statement. Where its word stands, no sign does: a `}` ends the statements.
-#[cycle(block_at_branch_at_guarded_at_if_at_statement_at_statements_at_while_at)]
+#[cycle(statements)]
 fn statement_at(text: &[u8], at: usize, counts: Counts, letters: Letters, left: usize) -> Read
     requires ready { Ready text.now at counts }
     requires no_sign { NoSign text.now at × (Sized letters × (left ≤ 16)) }
@@ -97,7 +97,7 @@ fn statement_at(text: &[u8], at: usize, counts: Counts, letters: Letters, left: 
 }
 
 // A condition behind its `(`, and a block.
-#[cycle(block_at_branch_at_guarded_at_if_at_statement_at_statements_at_while_at)]
+#[cycle(statements)]
 fn guarded_at(text: &[u8], at: usize, counts: Counts, letters: Letters, left: usize) -> Read
     requires ready { Ready text.now at counts }
     requires sized { Sized letters × (left ≤ 16) }
@@ -115,7 +115,7 @@ fn guarded_at(text: &[u8], at: usize, counts: Counts, letters: Letters, left: us
 }
 
 // Behind `if`.
-#[cycle(block_at_branch_at_guarded_at_if_at_statement_at_statements_at_while_at)]
+#[cycle(statements)]
 fn if_at(text: &[u8], at: usize, counts: Counts, letters: Letters, left: usize) -> Read
     requires ready { Ready text.now at counts }
     requires sized { Sized letters × (left ≤ 16) }
@@ -148,7 +148,7 @@ fn if_at(text: &[u8], at: usize, counts: Counts, letters: Letters, left: usize) 
 }
 
 // Behind `while`.
-#[cycle(block_at_branch_at_guarded_at_if_at_statement_at_statements_at_while_at)]
+#[cycle(statements)]
 fn while_at(text: &[u8], at: usize, counts: Counts, letters: Letters, left: usize) -> Read
     requires ready { Ready text.now at counts }
     requires sized { Sized letters × (left ≤ 16) }
@@ -171,7 +171,7 @@ fn while_at(text: &[u8], at: usize, counts: Counts, letters: Letters, left: usiz
 }
 
 // Behind `branch`: arms, two at least.
-#[cycle(block_at_branch_at_guarded_at_if_at_statement_at_statements_at_while_at)]
+#[cycle(statements)]
 fn branch_at(text: &[u8], at: usize, counts: Counts, letters: Letters, left: usize) -> Read
     requires ready { Ready text.now at counts }
     requires sized { Sized letters × (left ≤ 16) }

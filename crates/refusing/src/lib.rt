@@ -9,7 +9,7 @@ ghost use Rattle.refusing.specs.Asking.{Asks};
 ghost use Rattle.refusing.specs.Inside.Letters.{FirstOther};
 
 // Admitted, or refused with a number and its place.
-#[derive(Drop)]
+#[derive(Clone, Copy)]
 pub enum Asked {
     Admitted,
     Refused { number: u64, place: u64 },

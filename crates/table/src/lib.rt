@@ -5,7 +5,7 @@ pub mod form; // form.rt: the places of the fields, and the codes in a row
 pub mod source; // source.rt: where a search finds the rows that leave a state
 
 // A row as it stands in an image; `motion` is its move.
-#[derive(Drop)]
+#[derive(Clone, Copy)]
 pub struct Row {
     pub from: usize,
     pub symbol: u8,

@@ -5,7 +5,7 @@ ghost use Rattle.bits.specs.Byte.{is_digit};
 ghost use Rattle.text.specs.Token.{in_word};
 ghost use Rattle.tokeniser.specs.Inside.Tokenising.{kind_of};
 
-#[derive(Drop)]
+#[derive(Clone, Copy)]
 pub enum Kind {
     Digit,
     Alphabetic,

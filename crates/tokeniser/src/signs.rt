@@ -4,7 +4,7 @@ ghost use Rattle.tokeniser.specs.Inside.Tokenising.{IsSign};
 
 use text::Sign;
 
-#[derive(Drop)]
+#[derive(Clone, Copy)]
 pub enum Found {
     Sign(Sign),
     Nothing,

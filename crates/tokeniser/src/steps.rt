@@ -13,7 +13,7 @@ use super::signs::{Found, pair, single};
 use super::words::word_of;
 use text::Token;
 
-#[derive(Drop)]
+#[derive(Clone, Copy)]
 pub enum Step {
     Blank { next: usize },
     Token(Token),

@@ -1,0 +1,32 @@
+-- `judge::search::expand` meets its contract. The loop's invariant: the rows before row `j` of those that are shown are followed, and row `j`
+-- stands at `at`.
+use borrow.Author.Rules.{rules}
+use Prim.Native.Nat.{◌≤◌, ◌-◌}
+use native.Mathlib.Omega.{arith}
+use mathlib.Core.Path.{◌≡◌, refl, sym, ◌∙◌}
+use Rattle.table.specs.Fields.{table_of}
+use Rattle.table.specs.Inside.Showing.{place_in}
+use Rattle.table.proofs.Showing.{range_first}
+use Rattle.judge.specs.Inside.Search.{Followed, Searching, Keeps}
+use Rattle.judge.specs.Inside.Inner.{Shown}
+use Rattle.judge.proofs.Following.{same_keeps, place_again, expand_shows, expand_inside, expand_begins, expand_followed, expand_ends}
+use Rattle.judge.proofs.search.expand.Goals as goal
+
+pub loop-j-init : goal.loop-j-init
+loop-j-init c =
+    let w = c.requires in
+    let e = c.clear_bit.ensures in
+    let a = c.rows_of-range.ensures in
+    (omega arith, expand_begins w e a, expand_followed w e a, same_keeps, sym (range_first _))
+
+pub loop-j-preserved : goal.loop-j-preserved
+loop-j-preserved c =
+    let f = c.visit-past.ensures in
+    let l = c.loop-j.invariant in
+    let low = c.requires.low in
+    (omega arith, f.search, f.keeps _ low l.2, λ k lowk was. f.keeps k lowk (l.3 k lowk was), place_again _ _ l.4 refl)
+
+pub returns : goal.returns
+returns c =
+    let l = c.loop-j.invariant in
+    expand_ends c.requires c.clear_bit.ensures c.rows_of-range.ensures _ c.loop-j-test.false l.1 l.2 l.3

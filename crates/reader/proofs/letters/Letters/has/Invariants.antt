@@ -1,0 +1,16 @@
+-- `reader::letters::Letters::has` meets its contract: what is left to look at has the letter exactly when the whole has.
+use Prim.Native.Nat.{◌-◌, ◌≤◌}
+use native.Mathlib.Omega.{arith}
+use mathlib.Core.Path.{◌≡◌, refl, sym, ◌∙◌}
+use lib.ListN.{take, drop}
+use lib.Seq.{get_or-take}
+use Rattle.rule.specs.Limits.{is_in}
+use Rattle.reader.specs.Inside.Answers.{alphabet_of}
+use Rattle.reader.proofs.Alphabet.{found_here, look_on, found_nowhere, alphabet_length}
+use Rattle.reader.proofs.letters.Letters.has.Given as goal
+
+abbrev pub invariant-loop-i : goal.invariant-loop-i
+invariant-loop-i l = (l.i ≤ l.count) × (is_in l.byte (take l.count l.bytes) ≡ is_in l.byte (drop l.i (take l.count l.bytes)))
+
+abbrev pub decreases-loop-i : goal.decreases-loop-i
+decreases-loop-i l = l.count - l.i
