@@ -3,62 +3,77 @@
 // error, and then no line is printed.
 #![tactic(auto)]
 
-use libc::{STDERR_FILENO, STDIN_FILENO, STDOUT_FILENO};
+use files::Input;
+use std::env::{Env, FillError};
+use std::io::{Error, ErrorKind, Write};
 
-fn usage() {
-    io::write_all(
-        STDERR_FILENO,
+// The name that leads to the file behind standard input, whatever that file is called.
+const STANDARD_INPUT: &str = "/proc/self/fd/0";
+
+// Whether an argument is there, be it longer than any name.
+fn given(rt: &HostRuntime, i: usize) -> bool {
+    match rt.arg(i, &mut []) {
+        Err(FillError::NotPresent) => false,
+        _ => true,
+    }
+}
+
+fn usage(rt: &HostRuntime) {
+    let _ = rt.stderr().write_all(
         b"compile: the rule comes on standard input, and at most one name is given, of a file for the image\n",
     );
 }
 
 // Whether the image is in the file that was named, if one was.
-fn saved(image: &[u8]) -> bool {
-    if os::arg_count() < 2 {
-        return true;
+fn saved(rt: &HostRuntime, image: &[u8]) -> bool {
+    let mut path = [0u8; 4096];
+    match rt.arg(1, &mut path) {
+        Ok(n) => saving::save(rt, &mut rt.stderr(), &path[..n], image, STANDARD_INPUT),
+        Err(FillError::NotPresent) => true,
+        Err(FillError::TooLong) => {
+            let _ = files::say(
+                &mut rt.stderr(),
+                b"compile: the name of the image's file",
+                b"File name too long",
+            );
+            false
+        }
     }
-    let mut path = io::buffer();
-    let n = os::arg(1, &mut path);
-    if os::errno() != 0 {
-        os::fail(b"compile: the name of the image's file");
-        return false;
-    }
-    saving::save(&path[..n], image, STDIN_FILENO)
 }
 
 // A line that cannot be written is said on standard error: no line never means that all is well.
-fn shown(line: &[u8]) {
-    if !io::write_all(STDOUT_FILENO, line) {
-        os::fail(b"compile: standard output");
+fn shown(rt: &HostRuntime, line: &[u8]) {
+    if let Err(error) = rt.stdout().write_all(line) {
+        let _ = files::fail(rt, &mut rt.stderr(), b"compile: standard output", error);
     }
 }
 
 // The file is written before the line, so that `ok` says that it is there.
-fn compile(text: &[u8; 4097], many: usize) {
+fn compile(rt: &HostRuntime, text: &[u8; 4097], many: usize) {
     let mut image = [0u8; 8246];
     let mut line = [0u8; 66];
     let answered = programs::compile_text(text, many, &mut image, &mut line);
     let bytes = answered.image;
     if 0 < bytes {
-        if !saved(&image[..bytes]) {
+        if !saved(rt, &image[..bytes]) {
             return;
         }
     }
     let length = answered.line;
-    shown(&line[..length]);
+    shown(rt, &line[..length]);
 }
 
-fn main() {
-    if 2 < os::arg_count() {
-        usage();
+fn main(rt: HostRuntime) {
+    if given(&rt, 2) {
+        usage(&rt);
         return;
     }
     let mut text = [0u8; 4097];
-    let got = files::read_all(STDIN_FILENO, &mut text);
-    if files::failed(got) {
-        os::fail(b"compile: standard input");
+    let got = files::read_all(&mut rt.stdin(), &mut text);
+    if let Input::Failed(error) = got {
+        let _ = files::fail(&rt, &mut rt.stderr(), b"compile: standard input", error);
         return;
     }
     let n = files::count(got, &text);
-    compile(&text, n);
+    compile(&rt, &text, n);
 }

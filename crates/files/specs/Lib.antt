@@ -1,2 +1,3 @@
--- What reading answers.
+-- What reading answers, and what is said of what failed.
 pub mod Reading
+pub mod Telling

@@ -1,38 +1,45 @@
-// Files for programs: reading all of one, or of standard input, into a buffer, so that a failed read is never taken for an end.
+// Files for programs: reading all of one, or of standard input, into a buffer, so that a failed read is never taken for an end;
+// opening one by its name; and saying on standard error what failed.
 #![tactic(auto)]
 
-ghost use Rattle.std.specs.Prelude.{◌-◌, ◌<◌, min, ◌≡◌, length};
-ghost use Rattle.files.specs.Reading.{Within, failed_of, count_of};
-ghost use Rattle.io.specs.Counts.{IsPrefixLen};
+mod naming;
+mod telling;
 
-// How many bytes came, at most as many as the buffer has; or that a read failed.
-#[derive(Drop)]
+ghost use Rattle.std.specs.Prelude.{◌-◌, ◌<◌, min, ◌≡◌, length};
+ghost use Rattle.files.specs.Reading.{Within, IsPrefixLen, failed_of, count_of};
+
+pub use naming::{open, text};
+use std::io;
+use std::io::Read;
+pub use telling::{fail, reason, say};
+
+// How many bytes came, at most as many as the buffer has; or that a read failed, and of what.
+#[derive(Clone, Copy)]
 pub enum Input {
     Bytes(usize),
-    Failed,
+    Failed(io::Error),
 }
 
 // Reads once into the buffer from `from` on.
-fn read_some(fd: i32, buf: &mut [u8], from: usize) -> Input
+fn read_some<R: Read>(reader: &mut R, buf: &mut [u8], from: usize) -> Input
     requires { from < length buf.old }
     ensures { Within result (length buf.old - from) }
 {
-    let got = libc::read(fd, &mut buf[from..]);
-    if got < 0 {
-        return Input::Failed;
+    match reader.read(&mut buf[from..]) {
+        Ok(n) => Input::Bytes(n),
+        Err(error) => Input::Failed(error),
     }
-    Input::Bytes(io::count(got, &buf[from..]))
 }
 
 // Reads until the buffer is full or the input ends.
-pub fn read_all(fd: i32, buf: &mut [u8]) -> Input
+pub fn read_all<R: Read>(reader: &mut R, buf: &mut [u8]) -> Input
     ensures { Within result (length buf.old) }
 {
     let mut n = 0;
     while n < buf.len() {
-        let some = read_some(fd, buf, n);
+        let some = read_some(reader, buf, n);
         let Input::Bytes(k) = some else {
-            return Input::Failed;
+            return some;
         };
         if k == 0 {
             return Input::Bytes(n);
@@ -48,7 +55,7 @@ pub fn failed(input: Input) -> bool
 {
     match input {
         Input::Bytes(_) => false,
-        Input::Failed => true,
+        Input::Failed(_) => true,
     }
 }
 
@@ -59,7 +66,7 @@ pub fn count(input: Input, buf: &[u8]) -> usize
 {
     match input {
         Input::Bytes(n) => at_most(n, buf),
-        Input::Failed => 0,
+        Input::Failed(_) => 0,
     }
 }
 

@@ -1,76 +1,52 @@
--- A number's digits as a line has them are the fewest digits that hold it, at most 20.
+-- A number's digits as a line has them: how they are found from the last one on, and that they are at most 20.
 use Prim.Native.Nat.{ℕ, zero, suc, ◌+◌, ◌-◌, ◌/◌, ◌%◌, ◌^◌, ◌≤◌, ◌<◌}
 use native.Mathlib.Omega.{arith}
-use mathlib.Core.Path.{◌≡◌, sym, ◌∙◌, ap, subst}
-use mathlib.Core.Bool.{Bool, true, false, cond}
-use mathlib.Core.List.{List, [], ◌∷◌, ◌++◌, append_assoc, append-nil}
-use lib.ListN.{length}
+use mathlib.Core.Path.{◌≡◌, refl, sym, ◌∙◌, ap, subst}
+use mathlib.Core.Bool.{Bool, true, false}
+use mathlib.Core.List.{List, [], ◌∷◌}
+use lib.ListN.{length, drop, set}
 use lib.Dec.{ltb}
-use native.Mathlib.Nat.{one-le-pow, pow-le-pow_right}
-use native.Mathlib.Decide.{dec_lt}
 use borrow.Author.Tests.{lt-ltb, le-ltb}
-use Rattle.io.specs.Digits as Io
-use Rattle.io.specs.Digits.{IsDigitCount}
+use Rattle.std.proofs.Common.{add-one}
+use Rattle.std.proofs.lemmas.Grind.{drop-set_at}
 use Rattle.line.specs.Decimal.{digits, decimal}
 
 -- the digits of a number: the last one, or one behind those of a tenth
-digits_last : (most n : ℕ) (rest : List ℕ) → n < 10 → digits (suc most) n rest ≡ (n + 48) ∷ rest
+pub digits_last : (most n : ℕ) (rest : List ℕ) → n < 10 → digits (suc most) n rest ≡ (n + 48) ∷ rest
 unfolding digits
 digits_last most n rest low =
     ap (λ (t : Bool). elim t [ true ↦ (n + 48) ∷ rest | false ↦ digits most (n / 10) ((n % 10 + 48) ∷ rest) ]) (lt-ltb n 10 low)
 
-digits_more : (most n : ℕ) (rest : List ℕ) → 10 ≤ n → digits (suc most) n rest ≡ digits most (n / 10) ((n % 10 + 48) ∷ rest)
+pub digits_more : (most n : ℕ) (rest : List ℕ) → 10 ≤ n → digits (suc most) n rest ≡ digits most (n / 10) ((n % 10 + 48) ∷ rest)
 unfolding digits
 digits_more most n rest high =
     ap (λ (t : Bool). elim t [ true ↦ (n + 48) ∷ rest | false ↦ digits most (n / 10) ((n % 10 + 48) ∷ rest) ]) (le-ltb n 10 high)
 
-glyph_digit : (n : ℕ) → Io.hex_digit_ascii (n % 10) ≡ n % 10 + 48
-glyph_digit n =
-    let digit : 48 + n % 10 ≡ n % 10 + 48 = omega arith in
-    ap (λ (t : Bool). cond t (48 + n % 10) (87 + n % 10)) (lt-ltb (n % 10) 10 (omega arith)) ∙ digit
-
--- what has two digits at the fewest is 10 at least, and its tenth has one fewer
-fewest_more : (k n : ℕ) → IsDigitCount 10 1 n (suc (suc k)) → (10 ≤ n) × IsDigitCount 10 1 (n / 10) (suc k)
-fewest_more k n f =
+-- a tenth of a number of two digits and more has a digit fewer
+pub less_tenth : (k n : ℕ) → 10 ≤ n → n < 10 ^ k → (1 < k) × (n / 10 < 10 ^ (k - 1))
+less_tenth zero n high low = absurd (omega arith)
+less_tenth (suc zero) n high low = absurd (omega arith)
+less_tenth (suc (suc k)) n high low =
     let one : suc (suc k) - 1 ≡ suc k = omega arith in
-    let other : suc k - 1 ≡ k = omega arith in
-    let high : 10 ^ suc k ≤ n = subst (λ (m : ℕ). 10 ^ m ≤ n) one (f.2 (omega arith)) in
-    let some : 1 ≤ 10 ^ k = one-le-pow k 10 (omega arith) in (
-      omega arith,
-      (omega arith, omega (arith, f.1), λ _. subst (λ (m : ℕ). 10 ^ m ≤ n / 10) (sym other) (omega arith)),
-    )
+    (omega arith, subst (λ (m : ℕ). n / 10 < 10 ^ m) (sym one) (omega arith))
 
--- the fewest digits are those that the line has
-digits_fewest : (k most n : ℕ) (rest : List ℕ) → IsDigitCount 10 1 n (suc k) → k ≤ most → Io.last_digits 10 (suc k) n ++ rest ≡ digits (suc most) n rest
-digits_fewest zero most n rest f room =
-    let low : n < 10 = f.1 in
-    let same : n % 10 + 48 ≡ n + 48 = omega arith in
-    ap (λ (d : ℕ). d ∷ rest) (glyph_digit n ∙ same) ∙ sym (digits_last most n rest low)
-digits_fewest (suc k) zero n rest f room = absurd (omega arith)
-digits_fewest (suc k) (suc most) n rest f room =
-    let more = fewest_more k n f in
-    append_assoc (Io.last_digits 10 (suc k) (n / 10)) (Io.hex_digit_ascii (n % 10) ∷ []) rest
-    ∙ ap (λ (d : ℕ). Io.last_digits 10 (suc k) (n / 10) ++ (d ∷ rest)) (glyph_digit n)
-    ∙ digits_fewest k most (n / 10) ((n % 10 + 48) ∷ rest) more.1 (omega arith)
-    ∙ sym (digits_more (suc most) n rest more.0)
+-- digits that are written from the end of a buffer on: one more, and the first
+pub digits_step : (start k n : ℕ) (buffer : List ℕ) → start ≡ suc k → k < length buffer → 10 ≤ n
+    → digits k (n / 10) (drop k (set buffer k (n % 10 + 48))) ≡ digits start n (drop start buffer)
+digits_step start k n buffer is within high =
+    ap (digits k (n / 10)) (drop-set_at buffer k k (n % 10 + 48) refl within ∙ ap (λ (m : ℕ). (n % 10 + 48) ∷ drop m buffer) (add-one k))
+    ∙ sym (digits_more k n (drop (suc k) buffer) high)
+    ∙ ap (λ (m : ℕ). digits m n (drop m buffer)) (sym is)
 
--- 20 digits hold every number of 64 bits
-pub fewest_short : (n k : ℕ) → IsDigitCount 10 1 n k → n < 2 ^ 64 → k ≤ 20
-fewest_short n k f small = by_cases (dec_lt 20 k)
-  where
-    by_cases : Dec (20 < k) → k ≤ 20
-    by_cases (yes more) =
-        let high : 10 ^ (k - 1) ≤ n = f.2 (omega arith) in
-        let later : 20 ≤ k - 1 = omega arith in
-        let least : 10 ^ 20 ≤ 10 ^ (k - 1) = pow-le-pow_right {n = 10} (omega arith) later in
-        absurd (omega arith)
-    by_cases (no few) = omega arith
+pub digits_first : (start k n : ℕ) (buffer : List ℕ) → start ≡ suc k → k < length buffer → n < 10
+    → drop k (set buffer k (n + 48)) ≡ digits start n (drop start buffer)
+digits_first start k n buffer is within low =
+    drop-set_at buffer k k (n + 48) refl within
+    ∙ ap (λ (m : ℕ). (n + 48) ∷ drop m buffer) (add-one k)
+    ∙ sym (digits_last k n (drop (suc k) buffer) low)
+    ∙ ap (λ (m : ℕ). digits m n (drop m buffer)) (sym is)
 
-pub decimal_is : (n k : ℕ) → IsDigitCount 10 1 n k → k ≤ 20 → Io.last_digits 10 k n ≡ decimal n
-decimal_is n zero f room = absurd (omega (arith, f.0))
-decimal_is n (suc k) f room = sym (append-nil (Io.last_digits 10 (suc k) n)) ∙ digits_fewest k 19 n [] f (omega arith)
-
--- and they are at most 20
+-- they are at most 20
 digits_short : (most n : ℕ) (rest : List ℕ) → length (digits most n rest) ≤ most + length rest
 unfolding digits
 digits_short zero n rest = omega arith

@@ -1,14 +1,13 @@
 -- Bytes that stand in a buffer are a number of its bytes and stand there in one way, and bytes are added one behind the other.
-use Prim.Native.Nat.{ℕ, ◌+◌}
+use Prim.Native.Nat.{ℕ, ◌+◌, ◌≤◌}
 use native.Mathlib.Omega.{arith}
 use mathlib.Core.Path.{◌≡◌, refl, sym, ◌∙◌, ap, subst}
 use mathlib.Core.List.{List, [], ◌++◌, append_assoc}
 use lib.ListN.{length, drop, length-append}
-use Rattle.io.specs.Counts.{IsPrefixLen}
-use Rattle.io.proofs.Counting.{prefix_len_of_le}
+use lib.Seq.{length-take-le}
 use Rattle.bits.specs.Inside.Over.{over}
 use Rattle.bits.proofs.Over.{over-behind}
-use Rattle.line.specs.Standing.{Stands}
+use Rattle.line.specs.Standing.{Stands, IsPrefixLen}
 use Rattle.line.specs.Inside.Adding.{Adds}
 
 -- no second result fits the promise of a function that writes a line: end and buffer are settled by the buffer as it was and the line
@@ -18,6 +17,10 @@ pub stands_once
 stands_once {old} {bytes = bytes} a b =
     let same = a.ends ∙ sym b.ends in
     (same, a.is ∙ ap (λ (n : ℕ). bytes ++ drop n old) same ∙ sym b.is)
+
+-- what has so many bytes has so many first ones
+pub prefix_len_of_le : (n : ℕ) (xs : List ℕ) → n ≤ length xs → IsPrefixLen n xs
+prefix_len_of_le n xs short = (short, sym (length-take-le n xs short))
 
 -- as many bytes as stand at the beginning of a buffer are a number of its bytes
 pub front_counts : {out : List ℕ} {n : ℕ} (xs rest : List ℕ) → out ≡ xs ++ rest → n ≡ length xs → IsPrefixLen n out

@@ -4,60 +4,66 @@
 
 mod seen;
 
-ghost use Rattle.std.specs.Prelude.{◌+◌, ◌≤◌, ◌<◌, ◌≡◌, true, length};
+ghost use Rattle.std.specs.Prelude.{◌+◌, ◌≤◌, ◌<◌, ◌≡◌, ◌++◌, true, length, take, drop, OnOk};
+ghost use Rattle.std.specs.Io.KnownBytes.{Appends};
 ghost use Rattle.saving.specs.Names.{nameable};
-ghost use Rattle.saving.specs.Inside.Naming.{Named, Tried};
+ghost use Rattle.saving.specs.Inside.Naming.{Named, Ended, Tried};
 ghost use Rattle.saving.specs.Inside.Seen.{replaceable};
-ghost use Rattle.libc.specs.Io.{Ended};
 
 use crate::seen::{Seen, Stands, at, behind, kind, same};
-use libc::{PATH_MAX, STDERR_FILENO};
-
-// Writes a line to standard error: the path, a colon and what is wrong.
-fn say(path: &[u8], what: &[u8]) {
-    io::write_all(STDERR_FILENO, path);
-    io::write_all(STDERR_FILENO, b": ");
-    io::write_all(STDERR_FILENO, what);
-    io::write_all(STDERR_FILENO, b"\n");
-}
+use files::{fail, say, text};
+use std::fs::{Files, OpenFile, OpenOptions, Permissions};
+use std::io::{ErrorKind, Write};
+use std::os::unix::fs::PermissionsExt;
+use std::{fs, io};
 
 // Whether a file can be saved under a name of these bytes; says if not.
-fn named(path: &[u8]) -> bool
+fn named<W: Write>(errors: &mut W, path: &[u8]) -> bool
     ensures { result ≡ nameable (length path.now) }
 {
     if path.len() == 0 {
-        say(b"a file's name", b"it is empty");
+        let _ = say(errors, b"a file's name", b"it is empty");
         return false;
     }
     if 4090 < path.len() {
-        say(path, b"File name too long");
+        let _ = say(errors, path, b"File name too long");
         return false;
     }
     true
 }
 
+// These bytes in place of those from `at` on.
+fn put_bytes(buffer: &mut [u8], at: usize, bytes: &[u8])
+    requires { at + length bytes.now ≤ length buffer.old }
+    ensures { buffer.new ≡ take at buffer.old ++ bytes.now ++ drop (at + length bytes.now) buffer.old }
+{
+    let end = at + bytes.len();
+    buffer[at..end].copy_from_slice(bytes);
+}
+
 // A name with these bytes behind it, in a buffer whose last byte is 0.
-fn with_behind(path: &[u8], more: &[u8]) -> [u8; PATH_MAX]
+fn with_behind(path: &[u8], more: &[u8]) -> [u8; 4096]
     requires { length path.now + length more.now ≤ 4095 }
     ensures named { Named result path.now more.now }
     ensures ended { Ended result }
 {
-    let mut name = io::buffer();
-    bytes::copy(path, &mut name);
-    bytes::copy(more, &mut name[path.len()..]);
+    let mut name = [0u8; 4096];
+    put_bytes(&mut name, 0, path);
+    put_bytes(&mut name, path.len(), more);
     name[4095] = 0;
     name
 }
 
 // Whether an image may be put where this stands, the rule having been read from a file; says if not.
-fn may_replace(path: &[u8], old: Stands, rule: bool) -> bool
+fn may_replace<W: Write>(errors: &mut W, path: &[u8], old: Stands, rule: bool) -> bool
     ensures { result ≡ replaceable old rule }
 {
     match old {
         Stands::Nothing => true,
         Stands::File => {
             if rule {
-                say(
+                let _ = say(
+                    errors,
                     path,
                     b"this is the rule that is read; give the image another name",
                 );
@@ -65,22 +71,34 @@ fn may_replace(path: &[u8], old: Stands, rule: bool) -> bool
             !rule
         }
         Stands::Folder => {
-            say(path, b"Is a directory");
+            let _ = say(errors, path, b"Is a directory");
             false
         }
         Stands::Link => {
-            say(path, b"this is a link; name the file that it leads to");
+            let _ = say(
+                errors,
+                path,
+                b"this is a link; name the file that it leads to",
+            );
             false
         }
         Stands::Other => {
-            say(path, b"this is no file that an image could replace");
+            let _ = say(errors, path, b"this is no file that an image could replace");
             false
         }
     }
 }
 
+// Makes a file of this name, which no file may have.
+fn create_once<R: Files>(rt: &R, name: &[u8]) -> io::Result<R::File> {
+    OpenOptions::new()
+        .write(true)
+        .create_new(true)
+        .open(rt, text(name)?)
+}
+
 // Makes a file of a name that no file has: the name's last byte becomes the first digit with which it is free.
-fn create(name: &mut [u8]) -> i32
+fn create<R: Files>(rt: &R, name: &mut [u8]) -> io::Result<R::File>
     requires { 0 < length name.old }
     ensures { Tried name.old name.new }
 {
@@ -88,111 +106,162 @@ fn create(name: &mut [u8]) -> i32
     let mut digit = b'0';
     while digit < b'9' {
         name[last] = digit;
-        let fd = os::create(name);
-        if fd >= 0 {
-            return fd;
-        }
-        if os::errno() != libc::EEXIST {
-            return fd;
+        match create_once(rt, name) {
+            Ok(file) => return Ok(file),
+            Err(error) => {
+                if error.kind() != ErrorKind::AlreadyExists {
+                    return Err(error);
+                }
+            }
         }
         digit += 1;
     }
     name[last] = digit;
-    os::create(name)
+    create_once(rt, name)
 }
 
-fn not_created(path: &[u8]) {
-    if os::errno() == libc::EEXIST {
-        say(
+fn not_created<R: AllocGlobal, W: Write>(rt: &R, errors: &mut W, path: &[u8], error: io::Error) {
+    if error.kind() == ErrorKind::AlreadyExists {
+        let _ = say(
+            errors,
             path,
             b"the names with .new0 to .new9 behind it are all taken; remove what is not needed",
         );
         return;
     }
-    os::fail(path);
+    let _ = fail(rt, errors, path, error);
 }
 
 // Whether the new file has the old one's permissions, if there was one, and all of the bytes, on its device.
-fn written(fd: i32, content: &[u8], old_mode: u32) -> bool {
+fn written<F: Write + OpenFile>(file: &mut F, content: &[u8], old_mode: u32) -> io::Result<()>
+    ensures { OnOk result (Appends (F.contents file.old) (F.contents file.new) content.now) }
+{
     if old_mode != 0 {
-        if libc::fchmod(fd, old_mode % 512) < 0 {
-            return false;
-        }
+        file.set_permissions(Permissions::from_mode(old_mode % 512))?;
     }
-    if !io::write_all(fd, content) {
-        return false;
-    }
-    libc::fsync(fd) >= 0
+    file.write_all(content)?;
+    file.sync_all()
 }
 
-fn written_and_closed(fd: i32, content: &[u8], old_mode: u32) -> bool {
-    let done = written(fd, content, old_mode);
-    let closed = libc::close(fd);
-    if !done {
-        return false;
-    }
-    closed >= 0
+// It is closed where this returns, before it is renamed.
+fn written_and_closed<F: Write + OpenFile + Drop>(
+    mut file: F,
+    content: &[u8],
+    old_mode: u32,
+) -> io::Result<()> {
+    written(&mut file, content, old_mode)
+}
+
+// Writes the new file of this name, and gives it the path's name.
+fn put_new<R: Files>(
+    rt: &R,
+    file: R::File,
+    name: &[u8],
+    path: &[u8],
+    content: &[u8],
+    old_mode: u32,
+) -> io::Result<()> {
+    written_and_closed(file, content, old_mode)?;
+    fs::rename(rt, text(name)?, text(path)?)
+}
+
+fn remove<R: Files>(rt: &R, name: &[u8]) -> io::Result<()> {
+    fs::remove_file(rt, text(name)?)
 }
 
 // Writes a new file of this name, up to its last byte, and gives it the path's name; or removes it and says what failed.
-fn put_by(name: &mut [u8], path: &[u8], content: &[u8], old_mode: u32) -> bool
+fn put_by<R: Files + AllocGlobal, W: Write>(
+    rt: &R,
+    errors: &mut W,
+    name: &mut [u8],
+    path: &[u8],
+    content: &[u8],
+    old_mode: u32,
+) -> bool
     requires { 0 < length name.old }
     ensures { Tried name.old name.new }
 {
-    let fd = create(name);
-    if fd < 0 {
-        not_created(path);
-        return false;
-    }
-    if written_and_closed(fd, content, old_mode) {
-        if os::rename(name, path) >= 0 {
-            return true;
+    let file = match create(rt, name) {
+        Ok(file) => file,
+        Err(error) => {
+            not_created(rt, errors, path, error);
+            return false;
+        }
+    };
+    match put_new(rt, file, name, path, content, old_mode) {
+        Ok(()) => true,
+        Err(error) => {
+            let _ = fail(rt, errors, path, error);
+            let _ = remove(rt, name);
+            false
         }
     }
-    os::fail(path);
-    os::unlink(name);
-    false
 }
 
-fn put(path: &[u8], content: &[u8], old_mode: u32) -> bool
+fn put<R: Files + AllocGlobal, W: Write>(
+    rt: &R,
+    errors: &mut W,
+    path: &[u8],
+    content: &[u8],
+    old_mode: u32,
+) -> bool
     requires { nameable (length path.now) ≡ true }
 {
     let mut name = with_behind(path, b".new0");
     let n = path.len() + 5;
-    put_by(&mut name[..n], path, content, old_mode)
+    put_by(rt, errors, &mut name[..n], path, content, old_mode)
 }
 
-// Whether the system did not tell what stands there, though something may.
-fn unknown(old: Seen) -> bool {
+// Whether what stands there is the file that was read. Where nothing stands, that need not be asked.
+fn is_source<R: Files>(rt: &R, old: Seen, source: &str) -> io::Result<bool> {
     if old.mode == 0 {
-        return os::errno() != libc::ENOENT;
+        return Ok(false);
     }
-    false
+    Ok(same(old, behind(rt, source)?))
 }
 
-fn save_named(path: &[u8], content: &[u8], source: i32) -> bool
+fn save_named<R: Files + AllocGlobal, W: Write>(
+    rt: &R,
+    errors: &mut W,
+    path: &[u8],
+    content: &[u8],
+    source: &str,
+) -> bool
     requires { nameable (length path.now) ≡ true }
 {
-    let name = with_behind(path, &[0]);
-    let old = at(&name);
-    if unknown(old) {
-        os::fail(path);
+    let old = match at(rt, path) {
+        Ok(old) => old,
+        Err(error) => {
+            let _ = fail(rt, errors, path, error);
+            return false;
+        }
+    };
+    let rule = match is_source(rt, old, source) {
+        Ok(rule) => rule,
+        Err(error) => {
+            let _ = fail(rt, errors, source.as_bytes(), error);
+            return false;
+        }
+    };
+    if !may_replace(errors, path, kind(old.mode), rule) {
         return false;
     }
-    let read = behind(source);
-    if !may_replace(path, kind(old.mode), same(old, read)) {
-        return false;
-    }
-    put(path, content, old.mode)
+    put(rt, errors, path, content, old.mode)
 }
 
-// Saves a file whole under a name where nothing stands, or a file that is not the one behind `source`; says on standard error what
-// kept it from that.
-pub fn save(path: &[u8], content: &[u8], source: i32) -> bool
+// Saves a file whole under a name where nothing stands, or a file that is not the one to which `source` leads; says on standard error
+// what kept it from that.
+pub fn save<R: Files + AllocGlobal, W: Write>(
+    rt: &R,
+    errors: &mut W,
+    path: &[u8],
+    content: &[u8],
+    source: &str,
+) -> bool
     ensures { result ≡ true → nameable (length path.now) ≡ true }
 {
-    if named(path) {
-        return save_named(path, content, source);
+    if named(errors, path) {
+        return save_named(rt, errors, path, content, source);
     }
     false
 }

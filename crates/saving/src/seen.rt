@@ -1,14 +1,22 @@
-// What the system knows of a file: what it is, and which one it is. The two functions that lend a struct to a call are proved by a
-// walk by hand, so they do nothing else.
+// What the system knows of a file: what it is, and which one it is.
 ghost use Rattle.std.specs.Prelude.{◌≡◌};
 ghost use Rattle.saving.specs.Inside.Seen.{stands_of, same_file};
-ghost use Rattle.libc.specs.Io.{Ended};
 
-use libc::PATH_MAX;
-use libc::types::{stat, timespec};
+use files::text;
+use std::fs::{Files, Metadata};
+use std::io::{Error, ErrorKind};
+use std::os::unix::fs::MetadataExt;
+use std::{fs, io};
+
+// The four highest bits of a mode.
+const REGULAR: u32 = 8;
+
+const DIRECTORY: u32 = 4;
+
+const LINK: u32 = 10;
 
 // A file's mode, or 0 where nothing is known of it, and the two numbers that tell it from every other file.
-#[derive(Drop)]
+#[derive(Clone, Copy)]
 pub struct Seen {
     pub mode: u32,
     pub device: u64,
@@ -16,7 +24,7 @@ pub struct Seen {
 }
 
 // What stands at a name.
-#[derive(Drop)]
+#[derive(Clone, Copy)]
 pub enum Stands {
     Nothing,
     File,
@@ -25,63 +33,46 @@ pub enum Stands {
     Other,
 }
 
-// Where a call fails it leaves this as it is, and no file has the mode 0.
-fn blank() -> stat {
-    let none = timespec {
-        tv_sec: 0,
-        tv_nsec: 0,
-    };
-    stat {
-        st_dev: 0,
-        st_ino: 0,
-        st_nlink: 0,
-        st_mode: 0,
-        st_uid: 0,
-        st_gid: 0,
-        __pad: 0,
-        st_rdev: 0,
-        st_size: 0,
-        st_blksize: 0,
-        st_blocks: 0,
-        st_atim: none,
-        st_mtim: none,
-        st_ctim: none,
-        __unused: [0; 3],
-    }
+// Where nothing stands. No file has the mode 0.
+fn blank() -> Seen {
+    of(0, 0, 0)
 }
 
-fn told_of_descriptor(fd: i32, mut told: stat) -> stat {
-    libc::fstat(fd, &mut told);
-    told
-}
-
-fn told_of_name(name: &[u8; PATH_MAX], mut told: stat) -> stat
-    requires { Ended name.now }
-{
-    libc::lstat(name, &mut told);
-    told
-}
-
-fn of(told: stat) -> Seen
-    ensures { (result.mode ≡ told.st_mode) × (result.device ≡ told.st_dev) × (result.number ≡ told.st_ino) }
+fn of(mode: u32, device: u64, number: u64) -> Seen
+    ensures { (result.mode ≡ mode) × (result.device ≡ device) × (result.number ≡ number) }
 {
     Seen {
-        mode: told.st_mode,
-        device: told.st_dev,
-        number: told.st_ino,
+        mode,
+        device,
+        number,
     }
 }
 
-// The file behind a descriptor.
-pub fn behind(fd: i32) -> Seen {
-    of(told_of_descriptor(fd, blank()))
+fn told(metadata: &Metadata) -> Seen {
+    of(metadata.mode(), metadata.dev(), metadata.ino())
+}
+
+// The file to which a name leads.
+pub fn behind<R: Files>(rt: &R, source: &str) -> io::Result<Seen> {
+    Ok(told(&fs::metadata(rt, source)?))
+}
+
+// Whether the system did not tell what stands there, though something may.
+fn unknown(error: &Error) -> bool {
+    error.kind() != ErrorKind::NotFound
 }
 
 // What stands at a name; a link is not followed, and nothing is opened.
-pub fn at(name: &[u8; PATH_MAX]) -> Seen
-    requires { Ended name.now }
-{
-    of(told_of_name(name, blank()))
+pub fn at<R: Files>(rt: &R, name: &[u8]) -> io::Result<Seen> {
+    match fs::symlink_metadata(rt, text(name)?) {
+        Ok(metadata) => Ok(told(&metadata)),
+        Err(error) => {
+            if unknown(&error) {
+                return Err(error);
+            }
+            Ok(blank())
+        }
+    }
 }
 
 pub fn kind(mode: u32) -> Stands
@@ -91,13 +82,13 @@ pub fn kind(mode: u32) -> Stands
         return Stands::Nothing;
     }
     let high = mode / 4096;
-    if high == libc::S_IFREG / 4096 {
+    if high == REGULAR {
         return Stands::File;
     }
-    if high == libc::S_IFDIR / 4096 {
+    if high == DIRECTORY {
         return Stands::Folder;
     }
-    if high == libc::S_IFLNK / 4096 {
+    if high == LINK {
         return Stands::Link;
     }
     Stands::Other

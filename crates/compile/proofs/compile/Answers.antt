@@ -1,0 +1,15 @@
+-- Image and line are within their buffers.
+use Rattle.programs.proofs.Answering.{text_counts}
+use Rattle.compile.proofs.compile.Goals as goal
+
+pub slice_bounds-image-end : goal.slice_bounds-image-end
+slice_bounds-image-end c = (text_counts c.compile_text-answered.ensures).0.0
+
+pub slice_bounds-saved-end : goal.slice_bounds-saved-end
+slice_bounds-saved-end c = (text_counts c.compile_text-answered.ensures).0.1
+
+pub slice_bounds-line-end : goal.slice_bounds-line-end
+slice_bounds-line-end c = (text_counts c.compile_text-answered.ensures).1.0
+
+pub slice_bounds-shown-end : goal.slice_bounds-shown-end
+slice_bounds-shown-end c = (text_counts c.compile_text-answered.ensures).1.1

@@ -1,0 +1,9 @@
+-- Within the buffer, and nearer to its end each time.
+use Rattle.std.proofs.Common.{length, ◌-◌, ◌≤◌}
+use Rattle.files.proofs.read_all.Given as goal
+
+abbrev pub invariant-loop-n : goal.invariant-loop-n
+invariant-loop-n g l = l.n ≤ length l.buf
+
+abbrev pub decreases-loop-n : goal.decreases-loop-n
+decreases-loop-n g l = length l.initial.buf - l.n

@@ -1,0 +1,9 @@
+-- The line is within its buffer.
+use Rattle.programs.proofs.Answering.{word_counts}
+use Rattle.verdict.proofs.judge.Goals as goal
+
+pub slice_bounds-line-end : goal.slice_bounds-line-end
+slice_bounds-line-end c = (word_counts c.judge_word-n.ensures).0
+
+pub slice_bounds-shown-end : goal.slice_bounds-shown-end
+slice_bounds-shown-end c = (word_counts c.judge_word-n.ensures).1
