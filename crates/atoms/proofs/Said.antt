@@ -11,7 +11,6 @@ use Rattle.text.specs.First.{FirstToken}
 use Rattle.text.specs.declared.Word.{Word}
 use Rattle.text.specs.declared.Sign.{Sign}
 use Rattle.text.specs.declared.Token.{Token}
-use Rattle.text.specs.declared.Token.TheVariants as Token
 use Rattle.text.specs.contracts.Sign as sign-type
 use Rattle.text.specs.contracts.Word as word-type
 use Rattle.text.specs.contracts.Token as token-type

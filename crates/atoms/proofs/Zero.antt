@@ -3,7 +3,7 @@ use Prim.Native.Nat.{ℕ, ◌+◌, ◌*◌, ◌-◌, ◌≤◌, ◌<◌}
 use native.Mathlib.Omega.{arith}
 use native.Mathlib.Decide.{ℕ_discrete}
 use mathlib.Core.Path.{◌≡◌, refl, sym, ap, ap₂, ◌∙◌, subst}
-use mathlib.Core.Bool.{Bool, true, false, not, ◌&&◌}
+use mathlib.Core.Bool.{Bool, false, not, ◌&&◌}
 use mathlib.Core.List.{List, [], ◌∷◌}
 use lib.ListN.{length, get_or}
 use lib.Dec.{T, leb, eqb}
@@ -12,7 +12,6 @@ use Rattle.bits.specs.Byte.{is_digit}
 use Rattle.text.specs.Token.{every}
 use Rattle.text.specs.First.{FirstToken}
 use Rattle.text.specs.declared.Token.{Token}
-use Rattle.text.specs.declared.Token.TheVariants as Token
 use Rattle.rule.specs.Limits.{in_form, value_from}
 use Rattle.rule.proofs.Machine.Digits.{digit_bounds, digit_at}
 

@@ -5,11 +5,9 @@ use Rattle.text.specs.First.{part, FirstToken}
 use Rattle.text.specs.declared.Word.TheVariants as Word
 use Rattle.text.specs.declared.Sign.TheVariants as Sign
 use Rattle.text.specs.declared.Token.{Token}
-use Rattle.text.specs.declared.Token.TheVariants as Token
 use Rattle.rule.specs.Limits.{value_from, in_form}
 use Rattle.atoms.specs.declared.Refusal.{Refusal}
 use Rattle.atoms.specs.declared.Symbol.{Symbol}
-use Rattle.atoms.specs.declared.Symbol.TheVariants as Symbol
 use Rattle.atoms.specs.declared.Atom.TheVariants as Atom
 use Rattle.atoms.specs.declared.AtomRead.{AtomRead}
 use Rattle.atoms.specs.declared.AtomRead.TheVariants.{Found, Refused}

@@ -1,5 +1,5 @@
 -- Bytes whose fields stand where they should are the image of what the fields say.
-use Prim.Native.Nat.{ℕ, zero, suc, ◌+◌, ◌*◌, ◌/◌, ◌%◌, ◌≤◌}
+use Prim.Native.Nat.{ℕ, zero, suc, ◌+◌, ◌/◌, ◌%◌, ◌≤◌}
 use native.Mathlib.Nat.{add-zero, zero-add, le_of_eq}
 use native.Mathlib.Omega.{arith}
 use mathlib.Core.Path.{◌≡◌, refl, sym, ap, ◌∙◌}
@@ -25,7 +25,7 @@ use Rattle.table.specs.Form.{
 }
 use Rattle.table.specs.Image.{two_bytes, rows_bytes, flag, edition, encode}
 use Rattle.table.specs.Fields.{byte_at, two_at, letters_of, width_of, row_place, row_count, rows_from, table_of}
-use Rattle.table.specs.Inside.Right.{FieldAt, HeadRight, MiddleRight, TailRight}
+use Rattle.table.specs.Inside.Right.{HeadRight, MiddleRight, TailRight}
 use Rattle.table.proofs.Width.{bytes_of_high}
 use Rattle.table.proofs.Image.{rows_wide}
 use Rattle.table.proofs.RowList.{length-rows_from, place_first}

@@ -16,7 +16,6 @@ use Rattle.construction.specs.Construction.{test_row, count_up, all_symbols, wit
 use Rattle.compiler.specs.Inside.Writing.{Sheet, Holds, Filled, Room, Writes, Counts}
 use Rattle.atoms.specs.declared.Symbol.{Symbol}
 use Rattle.atoms.specs.declared.Atom.{Atom as Tested}
-use Rattle.atoms.specs.declared.Atom.TheVariants as Tested
 use Rattle.compiler.specs.Inside.Atoms.{counter_rows, read_rows, code_of, walked_as, rows_of, Codes}
 use Rattle.construction.proofs.Symbols.{length-count_up, length_symbols}
 

@@ -9,11 +9,8 @@ use Rattle.text.specs.Token.{word, number, letter, sign}
 use Rattle.text.specs.Tokens.{Placed, ◌at◌, Ending}
 use Rattle.text.specs.First.{part, IsWord, written, Begins}
 use Rattle.text.specs.declared.Word.{Word}
-use Rattle.text.specs.declared.Word.TheVariants as Word
 use Rattle.text.specs.declared.Sign.{Sign}
-use Rattle.text.specs.declared.Sign.TheVariants as Sign
 use Rattle.text.specs.declared.Token.{Token}
-use Rattle.text.specs.declared.Token.TheVariants as Token
 use Rattle.text.proofs.Once.{comes}
 use Rattle.rule.specs.Tree as Tree
 use Rattle.rule.specs.Tree.{SymbolName}
@@ -46,9 +43,8 @@ use Rattle.atoms.specs.Atom.{
 use Rattle.reader.specs.Inside.Atoms.{symbol_of, atom_of}
 use Rattle.atoms.specs.declared.Symbol.TheVariants as Symbol
 use Rattle.atoms.specs.declared.Atom.{Atom}
-use Rattle.atoms.specs.declared.Atom.TheVariants as Atom
 use Rattle.atoms.specs.declared.AtomRead.{AtomRead}
-use Rattle.atoms.specs.declared.AtomRead.TheVariants.{Found, Refused}
+use Rattle.atoms.specs.declared.AtomRead.TheVariants.{Found}
 use Rattle.construction.specs.Construction.{symbol_code, atom_rows}
 use Rattle.compiler.specs.Inside.Seeing.{Here, Behind}
 use Rattle.compiler.specs.Inside.Atoms.{read_rows, code_of, rows_of}

@@ -5,12 +5,10 @@ use mathlib.Core.Path.{◌≡◌, refl, sym, ap, subst}
 use mathlib.Core.List.{List, [], ◌∷◌, ◌++◌}
 use lib.ListN.{length}
 use types.Run.{OneOf}
-use Rattle.text.specs.Token.{word, w}
+use Rattle.text.specs.Token.{w}
 use Rattle.text.specs.Tokens.{◌at◌}
 use Rattle.text.specs.declared.Word.{Word}
-use Rattle.text.specs.declared.Word.TheVariants as Word
 use Rattle.text.specs.declared.Sign.{Sign}
-use Rattle.text.specs.declared.Sign.TheVariants as Sign
 use Rattle.table.specs.Table.{Row}
 use Rattle.rule.specs.Tree.{Statement, Arms}
 use Rattle.rule.specs.Grammar as Grammar

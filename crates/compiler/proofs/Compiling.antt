@@ -12,10 +12,9 @@ use Rattle.rule.specs.Faults.{FirstFault, Reads, TooMany}
 use Rattle.reader.specs.Reading.{reasons as reading_reasons, Whole, ReadsTo}
 use Rattle.reader.specs.declared.Reading.TheVariants as Reading
 use Rattle.construction.specs.Construction.{construct}
-use Rattle.construction.specs.Compile.{image_room, reasons, Compiled, Refused, Compiles}
+use Rattle.construction.specs.Compile.{image_room, reasons, Compiles}
 use Rattle.compiler.specs.Inside.Setting.{Fits, Emittable, Images}
 use Rattle.construction.specs.declared.Answer.{Answer}
-use Rattle.construction.specs.declared.Answer.TheVariants as Answer
 use Rattle.construction.proofs.Counts.{states_formula, rows_formula}
 use Rattle.construction.proofs.Agree.{agree}
 

@@ -12,9 +12,7 @@ use Rattle.text.specs.Token.{Token, word, w, s}
 use Rattle.text.specs.Tokens.{◌at◌}
 use Rattle.text.specs.First.{IsWord}
 use Rattle.text.specs.declared.Word.{Word}
-use Rattle.text.specs.declared.Word.TheVariants as Word
 use Rattle.text.specs.declared.Sign.{Sign}
-use Rattle.text.specs.declared.Sign.TheVariants as Sign
 use Rattle.table.specs.Table.{Row}
 use Rattle.rule.specs.Tree.{Statement, Rest}
 use Rattle.rule.specs.Grammar.{Ts, IsRest, nothing, else, block}

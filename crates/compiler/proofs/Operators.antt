@@ -16,7 +16,6 @@ use Rattle.text.specs.Tokens.{Placed, ◌at◌}
 use Rattle.text.specs.First.{written}
 use Rattle.text.specs.declared.Word.{Word}
 use Rattle.text.specs.declared.Sign.{Sign}
-use Rattle.text.specs.declared.Sign.TheVariants as Sign
 use Rattle.text.specs.contracts.Sign.{the_type}
 use Rattle.rule.specs.Tree as Tree
 use Rattle.rule.specs.Tree.{Condition}

@@ -16,11 +16,8 @@ use Rattle.text.specs.Token.{word, number, letter, sign, every, Spells, a_word, 
 use Rattle.text.specs.Tokens.{Placed, ◌at◌, Ending}
 use Rattle.text.specs.First.{IsWord, part, written, Next, Begins, FirstToken}
 use Rattle.text.specs.declared.Token.{Token}
-use Rattle.text.specs.declared.Token.TheVariants as Token
 use Rattle.text.specs.declared.Word.{Word}
-use Rattle.text.specs.declared.Word.TheVariants as Word
 use Rattle.text.specs.declared.Sign.{Sign}
-use Rattle.text.specs.declared.Sign.TheVariants as Sign
 use Rattle.text.proofs.Named.{word_is}
 use Rattle.text.proofs.Signed.{sign_of, all_signs, sign-is}
 use Rattle.tokeniser.proofs.Comes.{end_first}

@@ -10,9 +10,7 @@ use types.Run.{OneOf}
 use Rattle.text.specs.Token.{letter, w, s}
 use Rattle.text.specs.Tokens.{Placed, ◌at◌}
 use Rattle.text.specs.declared.Word.{Word}
-use Rattle.text.specs.declared.Word.TheVariants as Word
 use Rattle.text.specs.declared.Sign.{Sign}
-use Rattle.text.specs.declared.Sign.TheVariants as Sign
 use Rattle.table.specs.Form.{letters_place, rows_place}
 use Rattle.table.specs.Image.{encode}
 use Rattle.rule.specs.Tree.{Letter, Order, Program, letter_bytes}

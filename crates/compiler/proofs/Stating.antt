@@ -12,14 +12,12 @@ use Rattle.text.specs.Token.{Token, word, w, s}
 use Rattle.text.specs.Tokens.{◌at◌}
 use Rattle.text.specs.First.{IsWord}
 use Rattle.text.specs.declared.Word.{Word}
-use Rattle.text.specs.declared.Word.TheVariants as Word
 use Rattle.text.specs.declared.Sign.{Sign}
-use Rattle.text.specs.declared.Sign.TheVariants as Sign
 use Rattle.table.specs.Table.{Row}
 use Rattle.rule.specs.Tree.{Statement, Statements}
 use Rattle.rule.specs.Grammar as Grammar
 use Rattle.rule.specs.Grammar.{Ts, IsStatement, IsStatements}
-use Rattle.rule.proofs.Invert.{Stop, stops, statement_accept, statement_reject, If, While, Branch, rest_else, rest_also, Closed, closed, rest_brace}
+use Rattle.rule.proofs.Invert.{Stop, stops, statement_accept, statement_reject, rest_else, rest_also, Closed, closed, rest_brace}
 use Rattle.rule.specs.Inside.Within.{StatementsWithin}
 use Rattle.construction.specs.Construction.{Part, and_then, statement_part, statements_part}
 use Rattle.compiler.specs.Inside.Writing.{Sheet, Holds, Filled, Marks}

@@ -9,9 +9,7 @@ use Rattle.text.specs.Token.{Token, number, w}
 use Rattle.text.specs.Tokens.{Placed, ◌at◌}
 use Rattle.text.specs.First as First
 use Rattle.text.specs.declared.Word.{Word}
-use Rattle.text.specs.declared.Word.TheVariants as Word
 use Rattle.text.specs.declared.Sign.{Sign}
-use Rattle.text.specs.declared.Sign.TheVariants as Sign
 use Rattle.table.specs.Form.{to_left, no_move, to_right, no_change}
 use Rattle.table.specs.Table.{Row}
 use Rattle.rule.specs.Limits.{value_from}

@@ -13,9 +13,7 @@ use Rattle.text.specs.Token.{sign as signed}
 use Rattle.text.specs.First.{written}
 use Rattle.text.specs.Tokens.{◌at◌}
 use Rattle.text.specs.declared.Word.{Word}
-use Rattle.text.specs.declared.Word.TheVariants as Word
 use Rattle.text.specs.declared.Sign.{Sign}
-use Rattle.text.specs.declared.Sign.TheVariants as Sign
 use Rattle.table.specs.Table.{Row}
 use Rattle.rule.specs.Tree.{Atom, Condition}
 use Rattle.rule.specs.Grammar.{Ts, IsAtom, read_is, read_is_not, counter_is, counter_is_not, Binding, loosest, tightest, IsCondition, atom, parens, negation, tighter, both, tight, either}

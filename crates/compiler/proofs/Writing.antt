@@ -9,7 +9,6 @@ use lib.ListN.{length, get_or, take, drop, replicate, length-append, length-drop
 use lib.Seq.{take_at, drop_at, length-take-le, drop-cons, drop-length}
 use lib.Dec.{eqb}
 use borrow.Author.Tests.{eq-eqb, ne_eqb}
-use native.Mathlib.Decide.{ℕ_discrete}
 use Rattle.bits.specs.Bit.{with_bit}
 use Rattle.bits.proofs.Over.{over-behind}
 use Rattle.table.specs.Form.{first_edition, letters_place, accepting_place, accepting_bytes, rows_place, row_width}

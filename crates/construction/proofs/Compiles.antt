@@ -18,7 +18,6 @@ use Rattle.rule.proofs.Reasons.{single_text, no_text}
 use Rattle.construction.specs.Construction.{program_part, construct}
 use Rattle.construction.specs.Compile.{image_room, reasons, answer_number, Compiled, Refused, Compiles, CompilesTo}
 use Rattle.construction.specs.declared.Answer.{Answer}
-use Rattle.construction.specs.declared.Answer.TheVariants as Answer
 use Rattle.construction.proofs.SetBit.{length_accept}
 
 module _ {text before after after' : List ℕ} where

@@ -7,7 +7,6 @@ use Rattle.rule.specs.Faults.{FirstFault, Reads, TooMany}
 use Rattle.construction.specs.Construction.{construct}
 use Rattle.construction.specs.Agreement.{Agree}
 use Rattle.construction.specs.declared.Answer.{Answer}
-use Rattle.construction.specs.declared.Answer.TheVariants as Answer
 
 -- the bytes of image buffer that document 01 asks for, enough for the longest image
 abbrev pub image_room : ℕ

@@ -1,5 +1,5 @@
 -- What a row's step does to the search, whichever source shows the row.
-use Prim.Native.Nat.{ℕ, suc, ◌+◌, ◌*◌, ◌/◌, ◌%◌, ◌≤◌, ◌<◌}
+use Prim.Native.Nat.{ℕ, ◌+◌, ◌*◌, ◌/◌, ◌%◌, ◌≤◌, ◌<◌}
 use native.Mathlib.Decide.{ℕ_discrete}
 use native.Mathlib.Numerals.{add-one}
 use native.Mathlib.Omega.{arith}
@@ -17,9 +17,9 @@ use Rattle.table.specs.Source.{range_of}
 use Rattle.table.specs.Inside.Showing.{place_in, row_in, Shows}
 use Rattle.table.specs.declared.source.Range.{Range}
 use Rattle.table.specs.declared.source.Source.{Source}
-use Rattle.table.proofs.Showing.{range_first, range_next}
+use Rattle.table.proofs.Showing.{range_next}
 use Rattle.machine.specs.Step.{Situation, symbol_fits, counter_fits, row_fits, Takes}
-use Rattle.cells.specs.Cell.{Symbol, symbol_on}
+use Rattle.cells.specs.Cell.{Symbol}
 use Rattle.machine.specs.Outcome.{step_from, step_to, OutcomeRight, Steps}
 use Rattle.machine.specs.declared.Outcome.{Outcome}
 use Rattle.machine.specs.declared.Outcome.TheVariants.{Goes, Blocked, OverLimit}

@@ -1,7 +1,7 @@
 -- The refusals of the judge: those of image, word and limit, then that of the marks.
 use Prim.Native.Nat.{ℕ, ◌+◌, ◌*◌}
 use native.Mathlib.Omega.{arith}
-use mathlib.Core.Path.{◌≡◌, refl}
+use mathlib.Core.Path.{refl}
 use mathlib.Core.Logic.{inl}
 use mathlib.Core.List.{List}
 use Rattle.table.specs.Refusal.{First}

@@ -1,6 +1,5 @@
 -- What a row's step comes to, from the row's own state and within a limit.
-use Rattle.std.specs.Prelude.{ℕ, ◌≤◌, ◌<◌, cond, List, leb}
-use Rattle.std.proofs.Math.Option.{Option, none, some}
+use Rattle.std.specs.Prelude.{ℕ, ◌≤◌, ◌<◌, List}
 use Rattle.table.specs.Table.{Row, Table}
 use Rattle.machine.specs.Step.{Situation, Takes}
 use Rattle.machine.specs.declared.Outcome.{Outcome}

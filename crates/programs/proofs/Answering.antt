@@ -10,7 +10,6 @@ use lib.ListN.{length, drop}
 use lib.Dec.{T}
 use Rattle.construction.specs.Compile.{Compiles}
 use Rattle.construction.specs.declared.Answer.{Answer}
-use Rattle.construction.specs.declared.Answer.TheVariants as Answer
 use Rattle.construction.specs.Construction.{construct}
 use Rattle.bits.specs.Byte.{is_digit}
 use Rattle.text.specs.Token.{every}

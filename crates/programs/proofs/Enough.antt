@@ -2,19 +2,17 @@
 use Prim.Native.Nat.{ℕ, ◌≤◌, ◌<◌}
 use native.Mathlib.Omega.{arith}
 use native.Mathlib.Decide.{dec_lt}
-use mathlib.Core.Path.{◌≡◌, refl, sym, subst}
+use mathlib.Core.Path.{refl, sym, subst}
 use mathlib.Core.Logic.{inl, inr}
 use mathlib.Core.List.{List}
 use lib.ListN.{length, take}
 use lib.Seq.{take_all, length-take-le}
-use Rattle.table.specs.Table.{Table}
-use Rattle.table.specs.WellFormed.{IsImage, WellFormed}
+use Rattle.table.specs.WellFormed.{WellFormed}
 use Rattle.table.specs.Refusal.{First}
 use Rattle.table.proofs.Image.{length-encode}
 use Rattle.construction.specs.Compile as Compile
 use Rattle.construction.specs.Compile.{Compiles}
 use Rattle.construction.specs.declared.Answer.{Answer}
-use Rattle.construction.specs.declared.Answer.TheVariants as Answer
 use Rattle.judgement.specs.Judge as Judge
 use Rattle.judgement.specs.Judge.{Judges}
 

@@ -2,7 +2,6 @@
 use Rattle.std.specs.Prelude.{ℕ, ◌≡◌, List}
 use Rattle.construction.specs.Compile.{Compiles}
 use Rattle.construction.specs.declared.Answer.{Answer}
-use Rattle.construction.specs.declared.Answer.TheVariants as Answer
 use Rattle.line.specs.CompileLine.{compile_line}
 use Rattle.line.specs.Standing.{Stands}
 use Rattle.programs.specs.declared.Answered.{Answered}

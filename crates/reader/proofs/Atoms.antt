@@ -1,6 +1,6 @@
 -- What an atom's tokens say, the machine does with them: it takes the atom, or refuses where the first token stands that no atom has.
 use Prim.Native.Nat.{ℕ}
-use mathlib.Core.Path.{◌≡◌, refl, sym, ap, ◌∙◌, subst}
+use mathlib.Core.Path.{◌≡◌, refl, ap, ◌∙◌}
 use mathlib.Core.Bool.{Bool, true, false, not, ◌&&◌, true≢false}
 use mathlib.Core.List.{List, [], ◌∷◌}
 use lib.Dec.{leb}
@@ -9,11 +9,8 @@ use types.Run.{OneOf, hit}
 use Rattle.text.specs.Token.{w}
 use Rattle.text.specs.First.{part, FirstToken}
 use Rattle.text.specs.declared.Word.{Word}
-use Rattle.text.specs.declared.Word.TheVariants as Word
 use Rattle.text.specs.declared.Sign.{Sign}
-use Rattle.text.specs.declared.Sign.TheVariants as Sign
 use Rattle.text.specs.declared.Token.{Token}
-use Rattle.text.specs.declared.Token.TheVariants as Token
 use Rattle.text.specs.contracts.Sign as sign-type
 use Rattle.text.proofs.Once.{first_once}
 use Rattle.rule.specs.Tree as Tree

@@ -16,12 +16,10 @@ use Rattle.text.specs.Token.{number, letter, sign, Spells, a_sign}
 use Rattle.text.specs.First.{written, part, FirstToken}
 use Rattle.text.specs.declared.Sign.{Sign}
 use Rattle.text.specs.declared.Token.{Token}
-use Rattle.text.specs.declared.Token.TheVariants as Token
 use Rattle.text.specs.contracts.Token as token-type
 use Rattle.text.proofs.Runs.{T_true}
 use Rattle.text.proofs.Same.{same_token_lem}
 use Rattle.text.specs.Inside.Same.{same_token}
-use Rattle.rule.specs.Inside.Class as Class
 use Rattle.rule.specs.Inside.Class.{Fixed, spell, Class, mark, other, token_of, classify}
 use Rattle.rule.proofs.Machine.Class.{token_of_class, class_of_mark}
 use Rattle.rule.specs.Inside.Machine.{exact, Stack, Totals, choices, pick}

@@ -12,14 +12,11 @@ use Rattle.text.specs.Token.{word, number, letter, sign}
 use Rattle.text.specs.Tokens.{Placed, Ending, Tokens}
 use Rattle.text.specs.First.{Name, reserved, unreserved, name, IsNamed, written, part, Next, FirstToken}
 use Rattle.text.specs.declared.Word.{Word}
-use Rattle.text.specs.declared.Word.TheVariants as Word
 use Rattle.text.specs.declared.Sign.{Sign}
 use Rattle.text.specs.declared.Token.{Token}
-use Rattle.text.specs.declared.Token.TheVariants as Token
 use Rattle.text.proofs.Same.{same_token_lem}
 use Rattle.text.specs.Inside.Same.{same_token}
 use Rattle.text.proofs.Follow.{first_onward}
-use Rattle.rule.specs.Inside.Class as Class
 use Rattle.rule.specs.Inside.Class.{Fixed, spell, Class, mark, other, find, classify}
 use Rattle.reader.specs.Inside.Answers.{Front}
 

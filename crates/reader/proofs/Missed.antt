@@ -16,14 +16,12 @@ use Rattle.text.specs.First.{Name, reserved, unreserved, name, written, part, Fi
 use Rattle.text.specs.declared.Word.{Word}
 use Rattle.text.specs.declared.Sign.{Sign}
 use Rattle.text.specs.declared.Token.{Token}
-use Rattle.text.specs.declared.Token.TheVariants as Token
 use Rattle.text.specs.contracts.Sign as sign-type
 use Rattle.text.specs.contracts.Word as word-type
 use Rattle.text.specs.contracts.Token as token-type
 use Rattle.text.proofs.Same.{same_token_lem}
 use Rattle.text.specs.Inside.Same.{same_token}
 use Rattle.text.proofs.Follow.{place_of}
-use Rattle.rule.specs.Inside.Class as Class
 use Rattle.rule.specs.Inside.Class.{spell, Class, mark, other, token_of, classify}
 use Rattle.rule.proofs.Machine.Class.{token_of_class}
 use Rattle.rule.specs.Inside.Machine.{Expected, Stack, Totals, Move, Choice, on, on_number, on_letter, choices, take, pick, run}

@@ -11,9 +11,7 @@ use denote.Enum.Declared.{tag_of}
 use types.Run.{OneOf, miss}
 use Rattle.text.specs.First.{FirstToken}
 use Rattle.text.specs.declared.Sign.{Sign}
-use Rattle.text.specs.declared.Sign.TheVariants as Sign
 use Rattle.text.specs.declared.Token.{Token}
-use Rattle.text.specs.declared.Token.TheVariants as Token
 use Rattle.text.specs.contracts.Sign as sign-type
 use Rattle.text.specs.contracts.Token as token-type
 use Rattle.rule.specs.Inside.Machine.{operand, tail}

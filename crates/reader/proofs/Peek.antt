@@ -14,14 +14,12 @@ use Rattle.text.specs.Tokens.{Placed, ◌at◌, Ending, ends, broken}
 use Rattle.text.specs.First.{Name, reserved, name, IsNamed, IsWord, written, part, Begins, FirstToken}
 use Rattle.text.specs.declared.Word.{Word}
 use Rattle.text.specs.declared.Token.{Token}
-use Rattle.text.specs.declared.Token.TheVariants as Token
 use Rattle.text.specs.contracts.Word as word-type
 use Rattle.text.specs.contracts.Token as token-type
 use Rattle.text.proofs.Runs.{T_true}
 use Rattle.text.proofs.Same.{same_token_lem}
 use Rattle.text.specs.Inside.Same.{same_token}
 use Rattle.text.proofs.Named.{word_is}
-use Rattle.rule.specs.Inside.Class as Class
 use Rattle.rule.specs.Inside.Class.{Fixed, spell, Class, mark, other, token_of, classify}
 use Rattle.rule.proofs.Machine.Class.{token_of_class}
 use Rattle.rule.specs.Inside.Machine.{Expected, exact, distance, number, or_else, or_also, statements, Stack, Totals, outside, choices, pick, move, run}

@@ -3,7 +3,7 @@ use Prim.Native.Nat.{ℕ, ◌+◌, ◌≤◌}
 use native.Mathlib.Omega.{arith}
 use mathlib.Core.Path.{◌≡◌, refl, sym, ap, ◌∙◌, subst}
 use mathlib.Core.Bool.{Bool, true, false, not, true≢false}
-use mathlib.Core.Option.{none, some}
+use mathlib.Core.Option.{some}
 use mathlib.Core.List.{List, [], ◌∷◌}
 use lib.ListN.{length}
 use denote.Enum.Declared.{tag_of}
@@ -11,10 +11,9 @@ use types.Run.{OneOf, hit, miss}
 use Rattle.text.specs.Token as Spelt
 use Rattle.text.specs.Token.{w}
 use Rattle.text.specs.Tokens.{◌at◌, Ending}
-use Rattle.text.specs.First.{part, FirstToken}
+use Rattle.text.specs.First.{FirstToken}
 use Rattle.text.specs.declared.Sign.{Sign}
 use Rattle.text.specs.declared.Token.{Token}
-use Rattle.text.specs.declared.Token.TheVariants as Token
 use Rattle.text.specs.contracts.Sign as sign-type
 use Rattle.text.specs.contracts.Token as token-type
 use Rattle.text.proofs.Tokens.{tokens_once}
@@ -25,7 +24,6 @@ use Rattle.rule.specs.Grammar as Grammar
 use Rattle.rule.specs.Grammar.{Ts, IsSymbolName, IsAtom}
 use Rattle.rule.specs.Limits.{fault_if, is_in, symbol_name_faults, number_faults, atom_faults}
 use Rattle.rule.proofs.Within.{kept}
-use Rattle.rule.specs.Inside.Class as Class
 use Rattle.rule.specs.Inside.Class.{Class, token_of}
 use Rattle.rule.proofs.Machine.Class.{token_of_class}
 use Rattle.rule.specs.Inside.Machine.{Expected, number, operand, symbol_name, Stack, Value, Totals, counted, Move, outside, choices, pick, move, refused, run}
@@ -37,12 +35,9 @@ use Rattle.reader.specs.declared.answers.Counts.{Counts}
 use Rattle.reader.specs.declared.answers.Read.TheVariants as Read
 use Rattle.reader.specs.declared.answers.Read.TheVariants.{Went}
 use Rattle.atoms.specs.declared.Symbol.{Symbol as Sought}
-use Rattle.atoms.specs.declared.Symbol.TheVariants as Sought
 use Rattle.atoms.specs.contracts.Symbol as symbol-type
 use Rattle.reader.specs.declared.conditions.Stray.{Stray}
-use Rattle.reader.specs.declared.conditions.Stray.TheVariants as Stray
 use Rattle.atoms.specs.declared.Atom.{Atom}
-use Rattle.atoms.specs.declared.Atom.TheVariants as Atom
 use Rattle.atoms.specs.declared.AtomRead.{AtomRead}
 use Rattle.atoms.specs.declared.AtomRead.TheVariants.{Found, Refused}
 use Rattle.reader.proofs.Moves.{goes, breaks, comes_stops, counts_plus}

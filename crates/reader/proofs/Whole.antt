@@ -7,7 +7,6 @@ use types.Run.{OneOf, miss}
 use Rattle.text.specs.Tokens.{Placed, Ending, ends}
 use Rattle.text.specs.First.{Last, Begins, FirstToken}
 use Rattle.text.specs.declared.Token.{Token}
-use Rattle.text.specs.declared.Token.TheVariants as Token
 use Rattle.text.specs.contracts.Token as token-type
 use Rattle.text.proofs.Tokens.{tokens_once}
 use Rattle.rule.specs.Inside.Machine.{program, start, Totals, taken, refused, run, outcome}

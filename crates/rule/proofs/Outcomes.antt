@@ -51,7 +51,6 @@ use Rattle.rule.proofs.Machine.Sound.{Ended, eaten_program}
 use Rattle.text.proofs.Written.{laid}
 use Rattle.rule.proofs.Places.{past, rising-more, rising_apart, rising_front}
 use Rattle.rule.proofs.Machine.Viable.{short_all, completes}
-use Rattle.rule.proofs.Machine.Trace as Trace
 use Rattle.rule.proofs.Machine.Trace.{Passed, Trace, eat_one, passed_runs, passed_end, trace}
 
 -- where the machine is behind a whole program

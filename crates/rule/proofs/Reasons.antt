@@ -1,7 +1,7 @@
 -- The reasons to refuse that lie in a text itself.
 use Prim.Native.Nat.{ℕ, ◌≤◌}
 use native.Mathlib.Omega.{arith}
-use mathlib.Core.Path.{◌≡◌, sym, ap, ◌∙◌}
+use mathlib.Core.Path.{sym, ap, ◌∙◌}
 use mathlib.Core.List.{List, [], ◌∷◌}
 use Rattle.table.specs.Refusal.{because}
 use Rattle.table.proofs.Refusal.{Single, Gives, Each, single_because}

@@ -1,19 +1,19 @@
 -- All that the runs of a table on a word reach within a limit, by computing it, with the proof that this is all.
-use Prim.Native.Nat.{ℕ, zero, suc, ◌≤◌, ◌<◌, ◌*◌}
-use mathlib.Core.Path.{◌≡◌, refl, sym, ◌∙◌, ap, subst, subst₂}
-use mathlib.Core.Logic.{◌⊎◌, inl, inr, ⊎_elim, ∥∥₁_elim}
+use Prim.Native.Nat.{ℕ, zero, suc, ◌≤◌, ◌<◌}
+use mathlib.Core.Path.{◌≡◌, refl, sym, subst, subst₂}
+use mathlib.Core.Logic.{⊎_elim, ∥∥₁_elim}
 use mathlib.Core.HLevel.{⊥_prop}
 use mathlib.Core.Bool.{Bool, true, false, not, ◌&&◌, ◌||◌}
 use mathlib.Core.Option.{Option, none, some}
 use mathlib.Core.List.Memᴰ
-use mathlib.Core.List.{List, [], ◌∷◌, ◌++◌, map, Memᴰ, Nodup, Nodup-cons, Nodup-nil}
+use mathlib.Core.List.{List, [], ◌∷◌, ◌++◌, Memᴰ, Nodup, Nodup-cons, Nodup-nil}
 use lib.Dec.{T, T_not, leb, ltb, eqb, leb→le, le→leb, eqb→eq, eqb_refl, ltb→lt, lt→ltb}
 use lib.ListN.{length}
 use Rattle.bits.specs.Bit.{bit}
 use Rattle.bits.specs.Size.{Size}
-use Rattle.table.specs.Table.{Row, Table, Accepting}
-use Rattle.cells.specs.Cell.{moved, symbol_on}
-use Rattle.machine.specs.Step.{Situation, Takes, Step, row_fits, changed, symbol_fits, counter_fits}
+use Rattle.table.specs.Table.{Row, Table}
+use Rattle.cells.specs.Cell.{moved}
+use Rattle.machine.specs.Step.{Situation, Takes, row_fits, changed}
 use Rattle.machine.specs.Run.{start, Reach, begins, goes, Accepts, Passes}
 use Rattle.judgement.specs.Verdict.{Verdict, Yes, No, LimitMet, IsVerdict}
 use Rattle.bits.proofs.Tests.{every, every_at, and_left, and_right, and_of, or_left, or_right, or_cases}

@@ -11,9 +11,7 @@ use Rattle.text.specs.Tokens as Of
 use Rattle.text.specs.First.{Next, Begins, FirstToken}
 use Rattle.tokeniser.specs.Inside.Tokenising.{Skips, StepRight}
 use Rattle.tokeniser.specs.declared.steps.Step.{Step}
-use Rattle.tokeniser.specs.declared.steps.Step.TheVariants as Step
 use Rattle.text.specs.declared.Token.{Token}
-use Rattle.text.specs.declared.Token.TheVariants as Token
 use Rattle.text.specs.Inside.Scan.{scan_from}
 use Rattle.text.proofs.Front.{Found, Bad}
 use Rattle.text.proofs.Tokens.{found_then, scan_from_right}

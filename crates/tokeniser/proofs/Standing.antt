@@ -16,11 +16,9 @@ use Rattle.text.specs.Tokens.{is_white, slash, Blank, Placed, Ending}
 use Rattle.text.specs.First.{part, IsWord, written, Next, Begins, FirstToken}
 use Rattle.tokeniser.specs.Inside.Tokenising.{IsSign, kind_of, in_comment, Run, over, stop, on, Skips}
 use Rattle.text.specs.declared.Token.{Token}
-use Rattle.text.specs.declared.Token.TheVariants as Token
 use Rattle.text.specs.declared.Word.{Word}
 use Rattle.text.specs.declared.Sign.{Sign}
 use Rattle.tokeniser.specs.declared.signs.Found.{Found}
-use Rattle.tokeniser.specs.declared.signs.Found.TheVariants as Found
 use Rattle.tokeniser.specs.declared.kinds.Kind.TheVariants as Kinds
 use Rattle.text.specs.Inside.Scan.{Sort, of_letter, of_sign, Kind, for_token, for_comment, kind, run, letter_reach, reach, made, skip, bad, lex_comment, lex_token, lex_as, lex}
 use Rattle.text.proofs.Runs.{run_on, run_off, run_out}

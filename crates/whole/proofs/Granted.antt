@@ -21,7 +21,6 @@ use Rattle.rule.proofs.Outcomes.{reads_once}
 use Rattle.construction.specs.Construction.{construct}
 use Rattle.construction.specs.Agreement.{Agree}
 use Rattle.construction.specs.declared.Answer.{Answer}
-use Rattle.construction.specs.declared.Answer.TheVariants as Answer
 use Rattle.construction.specs.Compile.{answer_number, Compiled, Compiles, CompilesTo}
 use Rattle.construction.proofs.Compiles.{refused_bounds}
 use Rattle.whole.specs.Grant.{Grants, SaysNo, SaysLimitMet, Asks, Deserves}

@@ -2,7 +2,6 @@
 use mathlib.Core.Path.{refl}
 use Rattle.atoms.specs.Atom.{by_read, by_c}
 use Rattle.atoms.proofs.Said.{next_word, next_other, no_test, other_word}
-use borrow.Author.Rules.{rules}
 use borrow.Enum.Refused.{opened}
 use Rattle.atoms.proofs.atom_at.Goals as goal
 

@@ -1,5 +1,4 @@
 -- `atoms::is_zero` meets its contract, by how many digits there are.
-use borrow.Author.Rules.{rules}
 use Rattle.atoms.proofs.Zero.{one_zero, more_not_zero}
 use Rattle.atoms.proofs.is_zero.Goals as goal
 

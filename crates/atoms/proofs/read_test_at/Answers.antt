@@ -2,7 +2,6 @@
 use mathlib.Core.Path.{refl}
 use Rattle.atoms.specs.Atom.{same, differs}
 use Rattle.atoms.proofs.Said.{next_sign, next_other, no_comparison, other_sign}
-use borrow.Author.Rules.{rules}
 use borrow.Enum.Refused.{opened}
 use Rattle.atoms.proofs.read_test_at.Goals as goal
 

@@ -2,7 +2,6 @@
 use mathlib.Core.Path.{refl}
 use Rattle.atoms.specs.Atom.{lend, rend}
 use Rattle.atoms.proofs.Said.{next_word, next_other, other_mark, letter_says}
-use borrow.Author.Rules.{rules}
 use borrow.Enum.Refused.{opened}
 use Rattle.atoms.proofs.symbol_at.Goals as goal
 

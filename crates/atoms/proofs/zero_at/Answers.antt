@@ -1,12 +1,7 @@
 -- `atoms::zero_at` meets its contract.
-use native.Mathlib.Omega.{arith}
 use mathlib.Core.Path.{refl, sym, ◌∙◌}
-use borrow.Author.Tests.{not-true, not-false}
-use Rattle.rule.proofs.Machine.Digits.{number_digits}
 use Rattle.atoms.specs.Atom.{a_number}
-use Rattle.atoms.proofs.Zero.{number_bytes}
 use Rattle.atoms.proofs.Said.{next_stands, next_other, no_numeral, zero_read_lem, number_refused}
-use borrow.Author.Rules.{rules}
 use borrow.Enum.Refused.{opened}
 use Rattle.atoms.proofs.zero_at.Goals as goal
 

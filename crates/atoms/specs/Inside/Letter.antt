@@ -1,7 +1,6 @@
 -- What a letter's reader answers. No public promise reaches it.
 use Rattle.std.specs.Prelude.{Bool}
 use Rattle.text.specs.declared.Token.{Token}
-use Rattle.text.specs.declared.Token.TheVariants as Token
 use Rattle.atoms.specs.Atom.{refusal_of}
 use Rattle.atoms.specs.declared.Symbol.TheVariants as Symbol
 use Rattle.atoms.specs.declared.Atom.TheVariants as Atom

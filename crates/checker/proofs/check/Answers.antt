@@ -1,7 +1,6 @@
 -- A well-formed image has number 1, any other refusal 21. Assumes nothing.
 use mathlib.Core.Path.{refl}
 use Rattle.checker.specs.Check.{well_formed, malformed, checked_number}
-use borrow.Author.Rules.{rules}
 use Rattle.checker.proofs.check.Goals as goal
 
 pub returns-then-well_formed : goal.returns-then-well_formed

@@ -2,9 +2,7 @@
 use Rattle.std.specs.Prelude.{ℕ, ◌≡◌, Bool, true, false, not, List, [], ◌∷◌}
 use Rattle.table.specs.Table.{Row}
 use Rattle.atoms.specs.declared.Symbol.{Symbol}
-use Rattle.atoms.specs.declared.Symbol.TheVariants as Symbol
 use Rattle.atoms.specs.declared.Atom.{Atom}
-use Rattle.atoms.specs.declared.Atom.TheVariants as Atom
 use Rattle.table.specs.Form.{left_mark, right_mark, any_symbol, zero_counter, above_zero}
 use Rattle.construction.specs.Construction.{test_row, index_in, all_symbols, without, symbol_rows}
 use Rattle.compiler.specs.Inside.Writing.{Sheet, Holds}

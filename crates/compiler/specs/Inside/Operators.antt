@@ -4,7 +4,6 @@ use Rattle.std.specs.Prelude.{ℕ, zero, suc, ◌≡◌, Bool, true, false, List
 use Rattle.text.specs.Token.{Token, s}
 use Rattle.text.specs.Tokens.{Placed, ◌at◌}
 use Rattle.text.specs.declared.Sign.{Sign}
-use Rattle.text.specs.declared.Sign.TheVariants as Sign
 use Rattle.text.specs.Inside.Same.{same_token}
 use Rattle.compiler.specs.Inside.Seeing.{Here}
 use Rattle.compiler.specs.declared.ahead.Looked.{Looked}

@@ -5,9 +5,7 @@ use Rattle.text.specs.Token.{word, number, letter, sign, every}
 use Rattle.text.specs.Tokens.{Placed, ◌at◌, Ending, Tokens}
 use Rattle.text.specs.First.{part, IsWord, written}
 use Rattle.text.specs.declared.Word.{Word}
-use Rattle.text.specs.declared.Word.TheVariants as Word
 use Rattle.text.specs.declared.Sign.{Sign}
-use Rattle.text.specs.declared.Sign.TheVariants as Sign
 use Rattle.rule.specs.Limits.{value_from}
 use Rattle.compiler.specs.declared.see.Seen.{Seen}
 

@@ -1,6 +1,5 @@
 -- `judge::accepts_in` meets its contract.
-use borrow.Author.Rules.{rules}
-use Rattle.judge.proofs.Answers.{accepts_none, accepts_first}
+use Rattle.judge.proofs.Answers.{accepts_first}
 use mathlib.Core.Path.{sym, ◌∙◌}
 use Rattle.judge.proofs.accepts_in.Goals as goal
 

@@ -1,5 +1,4 @@
 -- `judge::decide` meets its contract: the search has found the marks, and the two questions and the count are asked of them.
-use borrow.Author.Rules.{rules}
 use native.Mathlib.Omega.{arith}
 use mathlib.Core.Path.{sym}
 use Rattle.judgement.proofs.Verdict.{verdict_low}

@@ -1,5 +1,4 @@
 -- `judge::judge` meets its contract: a refusal leaves the marks as they were, and all else is decided.
-use borrow.Author.Rules.{rules}
 use mathlib.Core.Path.{refl}
 use Rattle.judge.proofs.Deciding.{judges_refused, judges_decided, judgeable_undecided}
 use Rattle.judge.proofs.judge.Goals as goal

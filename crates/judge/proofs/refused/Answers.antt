@@ -2,7 +2,6 @@
 use native.Mathlib.Omega.{arith}
 use Rattle.judge.proofs.Refusing.{refused_input, refused_room}
 use Rattle.refusing.proofs.Reasons.{asks_small}
-use borrow.Author.Rules.{rules}
 use Rattle.judge.proofs.refused.Goals as goal
 
 pub overflow_mul-result : goal.overflow_mul-result

@@ -1,6 +1,6 @@
 -- What the search keeps in the marks. Bit i of the first half says that situation i is reached, and bit i of the second half that it is
 -- pending: reached, and its rows still to be followed. A reached situation that is not pending is followed.
-use Rattle.std.specs.Prelude.{ℕ, ◌+◌, ◌*◌, ◌/◌, ◌%◌, ◌≤◌, ◌<◌, ◌≡◌, Bool, true, cond, length, get_or, eqb}
+use Rattle.std.specs.Prelude.{ℕ, ◌+◌, ◌/◌, ◌%◌, ◌≤◌, ◌<◌, ◌≡◌, Bool, true, cond, length, get_or, eqb}
 use mathlib.Core.List.{List, Memᴰ}
 use Rattle.bits.specs.Bit.{bit, with_bit}
 use Rattle.table.specs.Table.{Row, Table, Accepting}

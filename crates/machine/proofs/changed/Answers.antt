@@ -1,5 +1,4 @@
 -- `machine::changed` meets its contract: a rise, a fall, and a fall below zero.
-use borrow.Author.Rules.{rules}
 use mathlib.Core.Path.{sym, ap, ◌∙◌}
 use Rattle.machine.specs.Inside.Change.{outcome_of}
 use Rattle.machine.proofs.Fits.{changed_up, changed_down, changed_stops, changed_dies}

@@ -1,5 +1,4 @@
 -- `machine::letter_fits` meets its contract: a code past the letters is none, and any other is compared.
-use borrow.Author.Rules.{rules}
 use mathlib.Core.Path.{sym}
 use native.Mathlib.Omega.{arith}
 use Rattle.machine.proofs.Fits.{letter_past, letter_compared}

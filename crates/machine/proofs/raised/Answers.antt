@@ -1,5 +1,4 @@
 -- `machine::raised` meets its contract: the sum is compared with the limit without being formed first.
-use borrow.Author.Rules.{rules}
 use mathlib.Core.Path.{sym}
 use native.Mathlib.Omega.{arith}
 use Rattle.machine.proofs.Fits.{outcome_within, outcome_above}

@@ -1,5 +1,4 @@
 -- `machine::step` meets its contract: a row whose two tests fit comes to what its change does, and any other is blocked.
-use borrow.Author.Rules.{rules}
 use mathlib.Core.Path.{sym, ap, ◌∙◌}
 use Rattle.machine.specs.Step.{symbol_fits}
 use Rattle.machine.proofs.Steps.{steps_on, blocked_symbol, blocked_test}

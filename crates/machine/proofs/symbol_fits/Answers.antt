@@ -1,5 +1,4 @@
 -- `machine::symbol_fits` meets its contract: any symbol fits, and each other is compared with what stands there.
-use borrow.Author.Rules.{rules}
 use mathlib.Core.Path.{sym, ◌∙◌}
 use Rattle.cells.specs.Code.{symbol_is}
 use Rattle.machine.proofs.Fits.{symbol_any, symbol_left, symbol_letter, symbol_right}

@@ -1,8 +1,6 @@
 -- A refusal's number and place are small, so both fit into one number. Assumes nothing.
-use Prim.Native.Nat.{◌≤◌}
 use native.Mathlib.Omega.{arith}
 use mathlib.Core.Path.{refl}
-use borrow.Author.Rules.{rules}
 use Rattle.construction.specs.Compile.{answer_number}
 use Rattle.construction.proofs.Compiles.{refused_bounds}
 use Rattle.office.proofs.valaiyoth_compile.Goals as goal

@@ -5,18 +5,14 @@ use Rattle.text.specs.Token.{s}
 use Rattle.text.specs.Tokens.{Placed, ◌at◌, Ending, Tokens}
 use Rattle.text.specs.First.{FirstToken}
 use Rattle.text.specs.declared.Token.{Token}
-use Rattle.text.specs.declared.Token.TheVariants as Token
 use Rattle.rule.specs.Tree as Tree
 use Rattle.rule.specs.Grammar.{Ts, IsAtom}
 use Rattle.rule.specs.Limits.{is_in, number_faults}
 use Rattle.rule.specs.Inside.Machine.{Expected, Totals}
 use Rattle.reader.specs.Inside.Answers.{spot, Stops}
 use Rattle.atoms.specs.declared.Symbol.{Symbol as Sought}
-use Rattle.atoms.specs.declared.Symbol.TheVariants as Sought
 use Rattle.atoms.specs.declared.Atom.{Atom}
-use Rattle.atoms.specs.declared.Atom.TheVariants as Atom
 use Rattle.reader.specs.declared.conditions.Stray.{Stray}
-use Rattle.reader.specs.declared.conditions.Stray.TheVariants as Stray
 use Rattle.atoms.specs.declared.AtomRead.{AtomRead}
 use Rattle.atoms.specs.declared.AtomRead.TheVariants.{Found, Refused}
 

@@ -1,7 +1,6 @@
 -- `refusing::first_reason` meets its contract: each reason where none before it holds. Assumes nothing.
 use Rattle.refusing.proofs.Letters.{letters_whole}
 use Rattle.refusing.proofs.Reasons.{checked_yes, checked_no, refused_image, refused_word, refused_letter, refused_limit, admitted}
-use borrow.Author.Rules.{rules}
 use Rattle.refusing.proofs.first_reason.Goals as goal
 
 pub returns-then-check-ne1 : goal.returns-then-check-ne1

@@ -1,7 +1,5 @@
 -- `refusing::outside` meets its contract. The loop's invariant: every byte passed is a letter.
-use borrow.Author.Count.{below_none, below_more}
 use Prim.Native.Nat.{ℕ, ◌≤◌, ◌<◌, ◌-◌}
-use native.Mathlib.Omega.{arith}
 use mathlib.Core.List.{Memᴰ}
 use lib.ListN.{length, get_or}
 use Rattle.table.specs.Fields.{table_of}

@@ -6,11 +6,10 @@ use mathlib.Core.List.{List, [], ◌∷◌}
 use lib.Dec.{T, eqb, eqb_refl}
 use Rattle.bits.specs.Inside.Same.{same_list}
 use Rattle.bits.proofs.Tests.{and_of}
-use Rattle.text.specs.Token as Token
 use Rattle.text.specs.Token.{Token, word, sign}
 use Rattle.text.specs.Inside.Same.{same_token}
 use Rattle.text.proofs.Same.{same_token_lem}
-use Rattle.rule.specs.Inside.Class.{Fixed, alphabet, decr_on_zero, is_true, is_false, twoc, string, move, goto, lend, rend, c, accept, reject, if, else, while, choose, branch, also, read, equals, same, differs, not, and, or, plus_plus, minus_minus, plus_equals, minus_equals, minus, opens, closes, begins, ends, open_list, close_list, comma, semicolon, mark, Class, number, letter, other, spell, words, signs, token_of, find, classify}
+use Rattle.rule.specs.Inside.Class.{Fixed, alphabet, decr_on_zero, is_true, is_false, twoc, string, move, goto, lend, rend, c, accept, reject, if, else, while, choose, branch, also, read, equals, same, differs, not, and, or, plus_plus, minus_minus, plus_equals, minus_equals, minus, opens, closes, begins, ends, open_list, close_list, comma, semicolon, mark, spell, words, signs, token_of, find, classify}
 
 find_token : (t : Token) (ms : List Fixed) → token_of (find t ms) ≡ t
 find_token t [] = refl

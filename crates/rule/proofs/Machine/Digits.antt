@@ -14,7 +14,6 @@ use Rattle.bits.proofs.Tests.{and_left, and_right, and_of}
 use Rattle.text.specs.Token.{every, number, Spells, a_number}
 use Rattle.text.specs.First.{part, FirstToken}
 use Rattle.text.specs.declared.Token.{Token}
-use Rattle.text.specs.declared.Token.TheVariants as Token
 use Rattle.rule.specs.Limits.{in_form, value_from}
 use Rattle.rule.specs.Inside.Machine.{outside}
 

@@ -5,7 +5,6 @@ use mathlib.Core.Bool.{Bool, true, false}
 use mathlib.Core.Option.{Option, none, some}
 use mathlib.Core.List.{List, [], ◌∷◌, ◌++◌, map, cons≢nil}
 use lib.Dec.{T}
-use Rattle.text.specs.Token as Token
 use Rattle.text.specs.Token.{Token, w, s}
 use Rattle.text.specs.Tokens.{◌at◌}
 use Rattle.text.proofs.Same.{same_token_lem}

@@ -3,7 +3,6 @@ use Prim.Native.Nat.{ℕ}
 use mathlib.Core.Path.{◌≡◌, refl}
 use mathlib.Core.Option.{some}
 use mathlib.Core.List.{List, [], ◌∷◌, ◌++◌}
-use Rattle.text.specs.Token as Token
 use Rattle.text.specs.Token.{Token, w, s}
 use Rattle.text.proofs.Runs.{T_true}
 use Rattle.text.specs.Inside.Same.{same_token}

@@ -1,7 +1,6 @@
 -- Tokens by class: each reserved word and each sign is a mark of its own, and the rest are numbers, letters and others.
 -- A move goes by a token's class, so that what the bytes are is settled here.
-use Rattle.std.specs.Prelude.{ℕ, Bool, true, false, List, [], ◌∷◌}
-use Rattle.text.specs.Token as Token
+use Rattle.std.specs.Prelude.{ℕ, true, false, List, [], ◌∷◌}
 use Rattle.text.specs.Token.{Token, word, sign, w, s}
 use Rattle.text.specs.Inside.Same.{same_token}
 

@@ -1,11 +1,8 @@
 -- `tokeniser::token_at` meets its contract. The loop's invariant: what comes first from here comes first in all.
 use Prim.Native.Nat.{◌-◌}
-use native.Mathlib.Omega.{arith}
 use lib.ListN.{length}
-use borrow.Author.Rules.{rules}
 use Rattle.text.specs.First.{FirstToken}
 use Rattle.text.specs.declared.Token.{Token}
-use Rattle.tokeniser.proofs.Comes.{end_first, skips_first, step_blank, step_token}
 use Rattle.tokeniser.proofs.token_at.Given as goal
 
 abbrev pub invariant-loop-at : goal.invariant-loop-at

@@ -6,9 +6,7 @@ use Rattle.text.specs.Token.{quote, signs}
 use Rattle.text.specs.Tokens.{is_white, slash, line_feed, Blank}
 use Rattle.text.specs.First.{written, FirstToken}
 use Rattle.tokeniser.specs.declared.signs.Found.{Found}
-use Rattle.tokeniser.specs.declared.signs.Found.TheVariants as Found
 use Rattle.tokeniser.specs.declared.steps.Step.{Step}
-use Rattle.tokeniser.specs.declared.steps.Step.TheVariants as Step
 use Rattle.tokeniser.specs.declared.kinds.Kind.{Kind}
 use Rattle.tokeniser.specs.declared.kinds.Kind.TheVariants.{Digit, Alphabetic, Underscore, Quote, White, Slash, Sign, Other}
 

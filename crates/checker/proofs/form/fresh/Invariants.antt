@@ -1,11 +1,7 @@
 -- Each letter passed differs from letter c. The measure is what is left. Assumes nothing.
 use Prim.Native.Nat.{ℕ, ◌<◌, ◌-◌}
-use native.Mathlib.Omega.{arith}
-use mathlib.Core.Path.{◌≡◌, refl, sym, ◌∙◌}
-use borrow.Author.Count.{below_none, below_more}
-use borrow.Author.Rules.{rules}
+use mathlib.Core.Path.{◌≡◌}
 use Rattle.table.specs.Fields.{letter_of}
-use Rattle.bits.proofs.Telling.{tells_no, tells_all}
 use Rattle.checker.proofs.form.fresh.Given as goal
 
 abbrev pub invariant-loop-d : goal.invariant-loop-d

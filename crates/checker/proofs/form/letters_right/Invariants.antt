@@ -1,10 +1,6 @@
 -- Each letter passed is right. The measure is what is left. Assumes nothing.
 use Prim.Native.Nat.{ℕ, ◌<◌, ◌-◌}
-use native.Mathlib.Omega.{arith}
-use borrow.Author.Count.{below_none, below_more}
-use borrow.Author.Rules.{rules}
 use Rattle.table.specs.Inside.Right.{LetterRight}
-use Rattle.bits.proofs.Telling.{refuted, kept, tells_all}
 use Rattle.checker.proofs.form.letters_right.Given as goal
 
 abbrev pub invariant-loop-c : goal.invariant-loop-c

@@ -1,10 +1,8 @@
 -- Each part that is asked is one of those of `MiddleRight`. Assumes nothing.
 use native.Mathlib.Omega.{arith}
 use borrow.Author.Tests.{lt-leb, leb-true, leb-false}
-use mathlib.Core.Path.{refl}
-use Rattle.bits.proofs.Telling.{refuted, kept, tells_no}
+use Rattle.bits.proofs.Telling.{kept, tells_no}
 use Rattle.table.specs.Fields.{table_of}
-use borrow.Author.Rules.{rules}
 use Rattle.checker.proofs.form.middle_right.Goals as goal
 
 pub returns-then-states-ge1 : goal.returns-then-states-ge1

@@ -1,7 +1,5 @@
 -- Its states and its codes. Assumes nothing.
-use Rattle.checker.proofs.Decided.{row_states, codes_tell}
-use Rattle.bits.proofs.Telling.{tells_no}
-use borrow.Author.Rules.{rules}
+use Rattle.checker.proofs.Decided.{codes_tell}
 use Rattle.checker.proofs.form.row_right.Goals as goal
 
 pub returns-then-states_right : goal.returns-then-states_right

@@ -1,11 +1,7 @@
 -- Each row passed is in range. The measure is what is left. Assumes nothing.
 use Prim.Native.Nat.{ℕ, ◌<◌, ◌-◌}
-use native.Mathlib.Omega.{arith}
-use borrow.Author.Count.{below_none, below_more}
-use borrow.Author.Rules.{rules}
 use Rattle.table.specs.Fields.{row_of, table_of}
 use Rattle.table.specs.WellFormed.{RowInRange}
-use Rattle.bits.proofs.Telling.{refuted, kept, tells_all}
 use Rattle.checker.proofs.form.rows_right.Given as goal
 
 abbrev pub invariant-loop-i : goal.invariant-loop-i

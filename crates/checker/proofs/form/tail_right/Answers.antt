@@ -1,10 +1,8 @@
 -- Each part that is asked is one of those of `TailRight`. Assumes nothing.
 use native.Mathlib.Omega.{arith}
 use borrow.Author.Tests.{eqb-true, eqb-false}
-use mathlib.Core.Path.{refl}
-use Rattle.bits.proofs.Telling.{refuted, kept, tells_no}
-use Rattle.checker.proofs.Framing.{tail_end, end_low, end_tail}
-use borrow.Author.Rules.{rules}
+use Rattle.bits.proofs.Telling.{kept}
+use Rattle.checker.proofs.Framing.{tail_end, end_tail}
 use Rattle.checker.proofs.form.tail_right.Goals as goal
 
 pub returns-then-field_at : goal.returns-then-field_at

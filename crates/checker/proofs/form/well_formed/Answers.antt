@@ -1,10 +1,8 @@
 -- Each part that is asked follows from the image being well formed, and all together make it so. Assumes nothing.
 use Rattle.bits.proofs.Telling.{refuted, kept, tells_as, tells_no}
-use native.Mathlib.Omega.{arith}
 use Rattle.table.specs.Fields.{table_of}
 use Rattle.table.proofs.Encoded.{image_head, image_middle, image_tail}
-use Rattle.checker.proofs.Decided.{rows_behind, parts_image, image_letters, image_others, image_rows}
-use borrow.Author.Rules.{rules}
+use Rattle.checker.proofs.Decided.{parts_image, image_letters, image_others, image_rows}
 use Rattle.checker.proofs.form.well_formed.Goals as goal
 
 pub returns-then-not-head_right : goal.returns-then-not-head_right

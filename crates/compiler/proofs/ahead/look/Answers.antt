@@ -3,7 +3,6 @@ use Prim.Native.Nat.{ℕ}
 use mathlib.Core.Path.{◌≡◌, sym, ◌∙◌, ap}
 use mathlib.Core.Bool.{Bool}
 use mathlib.Core.List.{[], ◌∷◌}
-use borrow.Author.Rules.{rules}
 use Rattle.text.specs.declared.Sign.{Sign}
 use Rattle.compiler.specs.Inside.Operators.{Bracketing, look_at, mark_of}
 use Rattle.compiler.specs.declared.ahead.Looked.{Looked}

@@ -1,12 +1,7 @@
 -- The loop's invariant: what is left to look at says as much as all of it. Assumes nothing.
-use Prim.Native.Nat.{◌-◌, ◌^◌, ◌≤◌}
 use native.Mathlib.Omega.{arith}
-use mathlib.Core.Path.{refl, sym, ◌∙◌}
-use mathlib.Core.List.{List}
-use borrow.Author.Rules.{rules}
-use Rattle.text.specs.Tokens.{Placed}
-use Rattle.compiler.specs.Inside.Seeing.{Here}
-use Rattle.compiler.proofs.Operators.{Looking, looked_out, looked_answer, looked_on, looked_deeper}
+use mathlib.Core.Path.{sym, ◌∙◌}
+use Rattle.compiler.proofs.Operators.{looked_out, looked_answer, looked_on, looked_deeper}
 use Rattle.compiler.proofs.ahead.operator_ahead.Goals as goal
 
 pub returns-then-end-at : goal.returns-then-end-at

@@ -1,6 +1,4 @@
 -- The cycle of calls of blocks and statements. The measure is three for each byte of the text that is left, and a rank. Assumes nothing.
-use Prim.Native.Nat.{ℕ, ◌+◌, ◌-◌, ◌*◌, ◌<◌}
-use lib.ListN.{length}
 use native.Mathlib.Omega.{arith}
 use Rattle.text.specs.declared.Word.TheVariants as Word
 use Rattle.compiler.proofs.Emission.{ready}
@@ -50,7 +48,6 @@ use Rattle.compiler.proofs.Stating.{
   rest_some,
   then_emitted,
 }
-use borrow.Author.Rules.{rules}
 use borrow.Enum.Refused.{opened}
 use Rattle.compiler.proofs.blocks.+blocks.Goals as goal
 
@@ -62,11 +59,10 @@ emit_arms-overflow_add-start t c =
     omega (arith, arms_few (settled c.requires.doing))
 
 pub emit_arms-emit_block-arm-requires : goal.emit_arms-emit_block-arm-requires
-emit_arms-emit_block-arm-requires t c =
-    (
-      omega (arith, c.decreases),
-      ready (arm_doing (settled c.requires.doing) c.free-row.ensures),
-    )
+emit_arms-emit_block-arm-requires t c = (
+  omega (arith, c.decreases),
+  ready (arm_doing (settled c.requires.doing) c.free-row.ensures),
+)
 
 pub emit_arms-emit_arms-requires : goal.emit_arms-emit_arms-requires
 emit_arms-emit_arms-requires t c =

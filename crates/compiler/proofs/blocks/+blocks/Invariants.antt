@@ -1,56 +1,6 @@
 -- The cycle of calls of blocks and statements. The measure is three for each byte of the text that is left, and a rank. Assumes nothing.
-use Prim.Native.Nat.{ℕ, ◌+◌, ◌-◌, ◌*◌, ◌<◌}
+use Prim.Native.Nat.{◌+◌, ◌-◌, ◌*◌}
 use lib.ListN.{length}
-use native.Mathlib.Omega.{arith}
-use Rattle.text.specs.declared.Word.TheVariants as Word
-use Rattle.compiler.proofs.Emission.{ready}
-use Rattle.compiler.proofs.Nesting.{
-  settled,
-  inside_doing,
-  inside_onward,
-  body_some,
-  body_room,
-  body_emitted,
-  else_doing,
-  else_onward,
-  without_room,
-  without_emitted,
-  if_few,
-  if_asking,
-  if_holding,
-  if_failing,
-  if_emitted,
-  loop_few,
-  loop_entry,
-  loop_body,
-  loop_emitted,
-}
-use Rattle.compiler.proofs.Branching.{
-  arms_few,
-  arms_room,
-  arm_doing,
-  arms_last,
-  also-onward,
-  more_doing,
-  more_emitted,
-  branch_few,
-  branch_doing,
-}
-use Rattle.compiler.proofs.Stating.{
-  headed_doing,
-  named,
-  unnamed,
-  reject_few,
-  reject_emitted,
-  reject_onward,
-  brace_emitted,
-  brace_onward,
-  statement_doing,
-  rest_doing,
-  rest_some,
-  then_emitted,
-}
-use borrow.Author.Rules.{rules}
 use Rattle.compiler.proofs.blocks.+blocks.Given as goal
 
 abbrev pub decreases-emit_arms : goal.decreases-emit_arms

@@ -1,7 +1,5 @@
 -- The bit is set, and a state is taken. Assumes nothing.
-use Rattle.compiler.proofs.Emission.{at_held}
 use Rattle.compiler.proofs.Stating.{accept_few, accept_emitted, accept_onward}
-use borrow.Author.Rules.{rules}
 use Rattle.compiler.proofs.blocks.emit_accept.Goals as goal
 
 pub emit_stop-requires : goal.emit_stop-requires

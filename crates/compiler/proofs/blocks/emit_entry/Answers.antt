@@ -2,7 +2,6 @@
 use native.Mathlib.Omega.{arith}
 use Rattle.compiler.proofs.Emission.{ready}
 use Rattle.compiler.proofs.Nesting.{entry_asks, choice_onward, choice_room, choice_room_then, choice_emitted}
-use borrow.Author.Rules.{rules}
 use borrow.Enum.Refused.{opened}
 use Rattle.compiler.proofs.blocks.emit_entry.Goals as goal
 

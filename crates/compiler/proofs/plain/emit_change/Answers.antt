@@ -12,7 +12,6 @@ use Rattle.compiler.proofs.Stepping.{
   up_counted,
   down_counted,
 }
-use borrow.Author.Rules.{rules}
 use borrow.Enum.Refused.{opened}
 use Rattle.compiler.proofs.plain.emit_change.Goals as goal
 

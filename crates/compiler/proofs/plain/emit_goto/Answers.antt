@@ -1,6 +1,5 @@
 -- The word says to which mark it goes. Assumes nothing.
 use Rattle.compiler.proofs.Stepping.{step_room, step_emitted, step-onward, lend_short, rend_short}
-use borrow.Author.Rules.{rules}
 use borrow.Enum.Refused.{opened}
 use Rattle.compiler.proofs.plain.emit_goto.Goals as goal
 

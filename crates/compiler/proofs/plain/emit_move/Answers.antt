@@ -3,7 +3,6 @@ use Prim.Native.Nat.{ℕ, ◌+◌, ◌-◌}
 use native.Mathlib.Omega.{arith}
 use Rattle.table.specs.Form.{no_move, no_change}
 use Rattle.compiler.proofs.Stepping.{step_room, step_emitted, step-onward, stepping_by, back_counted, forward_counted}
-use borrow.Author.Rules.{rules}
 use borrow.Enum.Refused.{opened}
 use Rattle.compiler.proofs.plain.emit_move.Goals as goal
 

@@ -1,8 +1,6 @@
 -- The loop's invariant: the value so far and the digits that are left give the whole value. Assumes nothing.
-use Prim.Native.Nat.{◌-◌, ◌*◌, ◌+◌, ◌≤◌}
 use native.Mathlib.Omega.{arith}
-use lib.ListN.{get_or}
-use Rattle.compiler.proofs.Seeing.{Counting, digit_bounds, count_none, count_more, count_all}
+use Rattle.compiler.proofs.Seeing.{digit_bounds, count_more, count_all}
 use Rattle.compiler.proofs.see.number.Goals as goal
 
 pub overflow_mul-value : goal.overflow_mul-value

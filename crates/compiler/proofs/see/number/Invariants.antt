@@ -1,8 +1,6 @@
 -- The loop's invariant: the value so far and the digits that are left give the whole value. Assumes nothing.
-use Prim.Native.Nat.{◌-◌, ◌*◌, ◌+◌, ◌≤◌}
-use native.Mathlib.Omega.{arith}
-use lib.ListN.{get_or}
-use Rattle.compiler.proofs.Seeing.{Counting, digit_bounds, count_none, count_more, count_all}
+use Prim.Native.Nat.{◌-◌}
+use Rattle.compiler.proofs.Seeing.{Counting}
 use Rattle.compiler.proofs.see.number.Given as goal
 
 abbrev pub invariant-loop-i : goal.invariant-loop-i

@@ -1,4 +1,3 @@
-use borrow.Author.Rules.{rules}
 use Rattle.text.specs.declared.Token.TheVariants as Token
 use Rattle.compiler.proofs.Seeing.{first_seen}
 use Rattle.compiler.proofs.see.see.Goals as goal

@@ -1,6 +1,5 @@
 -- Assumes nothing.
 use native.Mathlib.Omega.{arith}
-use borrow.Author.Rules.{rules}
 use Rattle.compiler.proofs.Setting.{fits_settings, fits_header, fits_beginning}
 use Rattle.compiler.proofs.settings.begin.Goals as goal
 

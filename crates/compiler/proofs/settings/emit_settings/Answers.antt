@@ -1,5 +1,4 @@
 -- Which word comes first says in which order the settings stand. Assumes nothing.
-use borrow.Author.Rules.{rules}
 use Rattle.compiler.proofs.Setting.{letters_first, letters_last, settled_first, settled_last}
 use borrow.Enum.Refused.{opened}
 use Rattle.compiler.proofs.settings.emit_settings.Goals as goal

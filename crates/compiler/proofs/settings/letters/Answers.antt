@@ -1,11 +1,8 @@
 -- The loop's invariant: the letters so far are in the image. Assumes nothing.
-use Prim.Native.Nat.{◌+◌, ◌-◌, ◌<◌}
 use native.Mathlib.Omega.{arith}
-use mathlib.Core.Path.{◌≡◌, refl}
-use lib.ListN.{length, length-set}
-use borrow.Author.Rules.{rules}
-use Rattle.table.specs.Form.{letters_place}
-use Rattle.compiler.proofs.Setting.{ListsSoFar, so_far_none, so_far_room, so_far_more, so_far_all}
+use mathlib.Core.Path.{refl}
+use lib.ListN.{length-set}
+use Rattle.compiler.proofs.Setting.{so_far_none, so_far_room, so_far_more, so_far_all}
 use borrow.Enum.Refused.{opened}
 use Rattle.compiler.proofs.settings.letters.Goals as goal
 

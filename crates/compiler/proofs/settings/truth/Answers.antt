@@ -1,5 +1,4 @@
 -- Assumes nothing.
-use borrow.Author.Rules.{rules}
 use Rattle.compiler.proofs.Setting.{true_told, false_told}
 use borrow.Enum.Refused.{opened}
 use Rattle.compiler.proofs.settings.truth.Goals as goal

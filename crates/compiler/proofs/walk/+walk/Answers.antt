@@ -1,33 +1,13 @@
 -- The walker's cycle of calls. The measure is five for each byte of the text that is left, and a rank: a chain of `||`, a side of it,
 -- a chain of `&&`, a side of it, an operand. Assumes nothing.
-use Prim.Native.Nat.{ℕ, ◌+◌, ◌-◌, ◌*◌, ◌<◌}
 use native.Mathlib.Omega.{arith}
-use mathlib.Core.Path.{◌∙◌, ap, subst}
-use mathlib.Core.Bool.{Bool, true}
-use lib.ListN.{length}
-use borrow.Author.Rules.{rules}
+use mathlib.Core.Path.{subst}
+use mathlib.Core.Bool.{Bool}
 use Rattle.text.specs.declared.Sign.TheVariants as Sign
 use Rattle.compiler.specs.Inside.Operators.{Ahead}
-use Rattle.compiler.specs.Inside.Emission.{takes, Leads}
+use Rattle.compiler.specs.Inside.Emission.{Leads}
 use Rattle.compiler.proofs.Emission.{ready, emitted_past, past_onward}
-use Rattle.compiler.proofs.Walking.{
-  rank,
-  rank_falls,
-  walk_few,
-  walk_some,
-  sides_here,
-  before_operator,
-  behind_operator,
-  operator_onward,
-  both_sides,
-  side_doing,
-  sign_onward,
-  negation_doing,
-  parens_doing,
-  atom_doing,
-  side_ready,
-  side_emits,
-}
+use Rattle.compiler.proofs.Walking.{rank_falls, walk_few, walk_some, sides_here, before_operator, behind_operator, operator_onward, both_sides, side_doing, sign_onward, negation_doing, parens_doing, atom_doing}
 use borrow.Enum.Refused.{opened}
 use Rattle.compiler.proofs.walk.+walk.Goals as goal
 
@@ -35,12 +15,11 @@ pub emit_chain-way-w-requires : goal.emit_chain-way-w-requires
 emit_chain-way-w-requires t c = walk_few c.requires.doing
 
 pub emit_chain-emit_side-first-requires : goal.emit_chain-emit_side-first-requires
-emit_chain-emit_side-first-requires t c =
-    (
-      omega (arith, rank_falls c.args.or, c.decreases),
-      let d = c.requires.doing in
-          ready (before_operator (subst (λ (b : Bool). Leads b c.args.to c.args.place c.way-w.result) c.takes_state.ensures c.way-w.ensures) d (sides_here (subst (Ahead _ _ _) c.if-operator_ahead.true c.operator_ahead.ensures) d)),
-    )
+emit_chain-emit_side-first-requires t c = (
+  omega (arith, rank_falls c.args.or, c.decreases),
+  let d = c.requires.doing in
+      ready (before_operator (subst (λ (b : Bool). Leads b c.args.to c.args.place c.way-w.result) c.takes_state.ensures c.way-w.ensures) d (sides_here (subst (Ahead _ _ _) c.if-operator_ahead.true c.operator_ahead.ensures) d)),
+)
 
 pub emit_chain-emit_chain-last-requires : goal.emit_chain-emit_chain-last-requires
 emit_chain-emit_chain-last-requires t c =

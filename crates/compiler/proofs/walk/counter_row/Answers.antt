@@ -1,6 +1,5 @@
 -- Each way has one row. Assumes nothing.
 use mathlib.Core.Path.{sym}
-use borrow.Author.Rules.{rules}
 use Rattle.compiler.proofs.AtomRows.{same_room, same_writes, counter_as}
 use Rattle.compiler.proofs.walk.counter_row.Goals as goal
 

@@ -2,7 +2,6 @@
 use native.Mathlib.Omega.{arith}
 use Rattle.compiler.proofs.Emission.{ready, past_onward}
 use Rattle.compiler.proofs.Walking.{holding_doing, failing_doing, tests_onward, tests_emitted}
-use borrow.Author.Rules.{rules}
 use Rattle.compiler.proofs.walk.emit_condition.Goals as goal
 
 pub emit_chain-holding-requires : goal.emit_chain-holding-requires

@@ -1,5 +1,4 @@
 -- Assumes nothing.
-use borrow.Author.Rules.{rules}
 use Rattle.compiler.proofs.AtomRows.{letter_symbol, mark_symbol}
 use Rattle.compiler.proofs.walk.nth.Goals as goal
 

@@ -1,9 +1,7 @@
 -- The loop's invariant: the rows of the first symbols are written. Assumes nothing.
-use Prim.Native.Nat.{◌-◌, ◌≤◌}
 use native.Mathlib.Omega.{arith}
-use mathlib.Core.Path.{◌≡◌, refl, ◌∙◌}
-use lib.ListN.{length}
-use Rattle.compiler.proofs.AtomRows.{Partly, partly_none, partly_room, partly_more, partly_all}
+use mathlib.Core.Path.{refl, ◌∙◌}
+use Rattle.compiler.proofs.AtomRows.{partly_none, partly_room, partly_more, partly_all}
 use Rattle.compiler.proofs.walk.others.Goals as goal
 
 pub loop-i-init : goal.loop-i-init

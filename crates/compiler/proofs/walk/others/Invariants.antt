@@ -1,9 +1,8 @@
 -- The loop's invariant: the rows of the first symbols are written. Assumes nothing.
 use Prim.Native.Nat.{◌-◌, ◌≤◌}
-use native.Mathlib.Omega.{arith}
-use mathlib.Core.Path.{◌≡◌, refl, ◌∙◌}
+use mathlib.Core.Path.{◌≡◌}
 use lib.ListN.{length}
-use Rattle.compiler.proofs.AtomRows.{Partly, partly_none, partly_room, partly_more, partly_all}
+use Rattle.compiler.proofs.AtomRows.{Partly}
 use Rattle.compiler.proofs.walk.others.Given as goal
 
 abbrev pub invariant-loop-i : goal.invariant-loop-i

@@ -1,7 +1,6 @@
 -- Assumes nothing.
 use mathlib.Core.Path.{sym}
-use borrow.Author.Rules.{rules}
-use Rattle.compiler.proofs.AtomRows.{same_room, same_writes, read_is_lem, read_is_not_lem}
+use Rattle.compiler.proofs.AtomRows.{same_room, same_writes, read_is_lem}
 use Rattle.compiler.proofs.walk.read_rows.Goals as goal
 
 pub test_row-requires : goal.test_row-requires

@@ -1,6 +1,5 @@
 -- Assumes nothing.
 use mathlib.Core.Path.{sym}
-use borrow.Author.Rules.{rules}
 use Rattle.compiler.proofs.AtomRows.{writes_none, same_room, same_writes, without_same, without_other}
 use Rattle.compiler.proofs.walk.unless.Goals as goal
 

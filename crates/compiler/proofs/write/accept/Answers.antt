@@ -1,9 +1,7 @@
-use Prim.Native.Nat.{ℕ, ◌+◌, ◌-◌, ◌≤◌}
+use Prim.Native.Nat.{ℕ, ◌+◌, ◌-◌}
 use native.Mathlib.Omega.{arith}
 use mathlib.Core.Path.{◌≡◌, refl}
-use lib.ListN.{length}
-use borrow.Author.Rules.{rules}
-use Rattle.table.specs.Form.{rows_place, accepting_place, accepting_bytes}
+use Rattle.table.specs.Form.{accepting_place, accepting_bytes}
 use Rattle.compiler.proofs.Writing.{held_long, marks_bit}
 use Rattle.compiler.proofs.write.accept.Goals as goal
 

@@ -1,4 +1,3 @@
-use borrow.Author.Rules.{rules}
 use Rattle.compiler.proofs.Writing.{heads}
 use Rattle.compiler.proofs.write.header.Goals as goal
 

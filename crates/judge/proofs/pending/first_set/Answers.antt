@@ -1,11 +1,5 @@
 -- `judge::pending::first_set` meets its contract. The loop's invariant: the bytes passed are all 0.
-use mathlib.Core.Path.{refl}
-use Prim.Native.Nat.{◌≤◌, ◌-◌}
-use native.Mathlib.Omega.{arith}
-use borrow.Author.Rules.{rules}
-use Rattle.ones.specs.Blank.{Blank}
-use Rattle.ones.proofs.Blanks.{blank_none, blank-more}
-use Rattle.judge.proofs.Bytes.{first_here, first_nowhere}
+use Rattle.judge.proofs.Bytes.{first_here}
 use Rattle.judge.proofs.pending.first_set.Goals as goal
 
 pub returns-then-b-gt0 : goal.returns-then-b-gt0

@@ -1,7 +1,6 @@
 -- `judge::pending::hinted` meets its contract: whatever was tried, what is found is pending.
 use borrow.Author.Rules.{rules}
 use Rattle.judge.proofs.Bytes.{guess_tried}
-use Prim.Native.Nat.{◌≤◌, ◌-◌}
 use native.Mathlib.Omega.{arith}
 use Rattle.judge.proofs.pending.hinted.Goals as goal
 

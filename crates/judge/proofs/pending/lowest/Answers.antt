@@ -1,5 +1,4 @@
 -- `judge::pending::lowest` meets its contract.
-use native.Mathlib.Omega.{arith}
 use Rattle.judge.proofs.Bytes.{lowest_set}
 use Rattle.judge.proofs.pending.lowest.Goals as goal
 

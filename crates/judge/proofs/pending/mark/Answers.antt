@@ -1,5 +1,4 @@
 -- `judge::pending::mark` meets its contract: a mark that was set, and one that was not.
-use borrow.Author.Rules.{rules}
 use mathlib.Core.Path.{sym, ◌∙◌}
 use Rattle.judge.proofs.Marking.{marked_same, marked_both}
 use Rattle.judge.proofs.pending.mark.Goals as goal

@@ -1,15 +1,9 @@
 -- `judge::search::expand` meets its contract. The loop's invariant: the rows before row `j` of those that are shown are followed, and row `j`
 -- stands at `at`.
-use borrow.Author.Rules.{rules}
-use Prim.Native.Nat.{◌≤◌, ◌-◌}
 use native.Mathlib.Omega.{arith}
-use mathlib.Core.Path.{◌≡◌, refl, sym, ◌∙◌}
-use Rattle.table.specs.Fields.{table_of}
-use Rattle.table.specs.Inside.Showing.{place_in}
+use mathlib.Core.Path.{refl, sym}
 use Rattle.table.proofs.Showing.{range_first}
-use Rattle.judge.specs.Inside.Search.{Followed, Searching, Keeps}
-use Rattle.judge.specs.Inside.Inner.{Shown}
-use Rattle.judge.proofs.Following.{same_keeps, place_again, expand_shows, expand_inside, expand_begins, expand_followed, expand_ends}
+use Rattle.judge.proofs.Following.{same_keeps, place_again, expand_begins, expand_followed, expand_ends}
 use Rattle.judge.proofs.search.expand.Goals as goal
 
 pub loop-j-init : goal.loop-j-init

@@ -1,12 +1,8 @@
 -- `judge::search::follow` meets its contract: a row that does not fit does nothing, and each outcome of its step does to the search what its
 -- law says.
-use Prim.Native.Nat.{◌+◌, ◌*◌, ◌<◌}
 use native.Mathlib.Omega.{arith}
 use mathlib.Core.Path.{sym, ◌∙◌}
-use borrow.Author.Tests.{not-true}
-use Rattle.judge.specs.Inside.Search.{situations}
 use Rattle.judge.proofs.Following.{followed_unfit, followed_blocked, followed_above, goes_below, followed_goes}
-use borrow.Author.Rules.{rules}
 use Rattle.judge.proofs.search.follow.Goals as goal
 
 pub returns-then-not-suits : goal.returns-then-not-suits

@@ -1,10 +1,7 @@
 -- `judge::search::search` meets its contract. The loop's invariant: the search is between two situations; the measure: how many are left.
-use native.Mathlib.Omega.{arith}
-use mathlib.Core.Path.{sym, ◌∙◌}
 use Rattle.table.specs.Fields.{table_of}
 use Rattle.judge.specs.Inside.Search.{Between}
 use Rattle.judge.proofs.Left.{left}
-use Rattle.judge.proofs.Picking.{begins-between, picked_waiting, picked_none, expand_falls}
 use Rattle.judge.proofs.search.search.Given as goal
 
 abbrev pub invariant-loop-source : goal.invariant-loop-source

@@ -1,7 +1,6 @@
 -- `judge::search::visit` meets its contract: a row out of another state does nothing.
 use mathlib.Core.Path.{sym, ◌∙◌}
-use Rattle.judge.proofs.Following.{followed_other, followed_here}
-use borrow.Author.Rules.{rules}
+use Rattle.judge.proofs.Following.{followed_other}
 use Rattle.judge.proofs.search.visit.Goals as goal
 
 pub returns : goal.returns

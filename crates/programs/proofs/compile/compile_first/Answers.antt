@@ -2,7 +2,6 @@
 use mathlib.Core.Path.{sym, ap}
 use Rattle.programs.specs.CompileText.{image_bytes}
 use Rattle.programs.proofs.Answering.{answers_text}
-use borrow.Author.Rules.{rules}
 use Rattle.programs.proofs.compile.compile_first.Goals as goal
 
 pub returns-in-Compiled : goal.returns-in-Compiled

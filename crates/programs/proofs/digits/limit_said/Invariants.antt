@@ -1,10 +1,7 @@
 -- Each turn reads one digit more. Assumes nothing.
-use Prim.Native.Nat.{ℕ, ◌+◌, ◌*◌, ◌-◌, ◌≤◌}
-use mathlib.Core.Path.{ap}
-use native.Mathlib.Omega.{arith}
-use borrow.Author.Rules.{rules}
+use Prim.Native.Nat.{◌-◌, ◌≤◌}
 use lib.ListN.{length}
-use Rattle.programs.proofs.Saying.{Halfway, halfway_none, not_digit, digit_low, digit_high, halfway_next, halfway_small, halfway_done}
+use Rattle.programs.proofs.Saying.{Halfway}
 use Rattle.programs.proofs.digits.limit_said.Given as goal
 
 abbrev pub invariant-loop-i : goal.invariant-loop-i

@@ -1,6 +1,4 @@
 -- `reader::answers::sign_at` meets its contract: its tests are those of a sign that is written with one byte.
-use native.Mathlib.Omega.{arith}
-use borrow.Author.Rules.{rules}
 use Rattle.reader.proofs.Front.{front_sign}
 use Rattle.reader.proofs.Moves.{ready_on}
 use Rattle.reader.proofs.Exact.{no_sign_lem, longer, another, this}

@@ -2,16 +2,11 @@
 -- is read from where the condition is.
 use native.Mathlib.Omega.{arith}
 use mathlib.Core.Path.{refl}
-use mathlib.Core.List.{[], ◌∷◌}
-use lib.ListN.{length}
-use borrow.Author.Rules.{rules}
-use Rattle.rule.specs.Inside.Machine.{operand, tail}
-use Rattle.reader.specs.Inside.Answers.{alphabet_of, totals, spot, ComesTo, Ready}
 use Rattle.reader.proofs.Front.{front_sign, told_sign}
 use Rattle.reader.proofs.Moves.{stand, went, went_ready, went_forth, comes_then, onward, done, step, then, stop, break, ready_on, ready_plus}
 use Rattle.reader.proofs.Missed.{refuses, refuses_sign}
-use Rattle.reader.proofs.Operators.{none_left, some_left, one_deeper, no_sign_first, joins}
-use Prim.Native.Nat.{ℕ, ◌+◌, ◌*◌, ◌-◌, ◌<◌}
+use Rattle.reader.proofs.Operators.{none_left, some_left, one_deeper, joins}
+use Prim.Native.Nat.{◌-◌}
 use borrow.Enum.Refused.{opened}
 use Rattle.reader.proofs.conditions.+conditions.Goals as goal
 

@@ -1,17 +1,10 @@
 -- The cycle of calls of `condition_at` and `operand_at`. Each call is nearer to the text's end, and a condition's first operand
 -- is read from where the condition is.
-use native.Mathlib.Omega.{arith}
-use mathlib.Core.Path.{refl}
 use mathlib.Core.List.{[], ◌∷◌}
 use lib.ListN.{length}
-use borrow.Author.Rules.{rules}
 use Rattle.rule.specs.Inside.Machine.{operand, tail}
 use Rattle.reader.specs.Inside.Answers.{alphabet_of, totals, spot, ComesTo, Ready}
-use Rattle.reader.proofs.Front.{front_sign, told_sign}
-use Rattle.reader.proofs.Moves.{stand, went, went_ready, went_forth, comes_then, onward, done, step, then, stop, break, ready_on, ready_plus}
-use Rattle.reader.proofs.Missed.{refuses, refuses_sign}
-use Rattle.reader.proofs.Operators.{none_left, some_left, one_deeper, no_sign_first, joins}
-use Prim.Native.Nat.{ℕ, ◌+◌, ◌*◌, ◌-◌, ◌<◌}
+use Prim.Native.Nat.{◌+◌, ◌*◌, ◌-◌}
 use Rattle.reader.proofs.conditions.+conditions.Given as goal
 
 abbrev pub decreases-condition_at : goal.decreases-condition_at

@@ -6,9 +6,8 @@ use Prim.Native.Nat.{ℕ, ◌≤◌}
 use Rattle.reader.specs.Inside.Answers.{alphabet_of}
 use Rattle.reader.specs.Inside.Atoms.{rows_of}
 use Rattle.reader.proofs.Alphabet.{alphabet_length}
-use Rattle.reader.proofs.Tested.{rows_most, atom_answers, atom_refused, atom_strays}
+use Rattle.reader.proofs.Tested.{atom_answers, atom_refused, atom_strays}
 use Rattle.reader.proofs.Atoms.{atom_tests}
-use borrow.Author.Rules.{rules}
 use Rattle.reader.proofs.conditions.counted_atom_at.Goals as goal
 
 pub returns-in-Nowhere : goal.returns-in-Nowhere

@@ -1,11 +1,8 @@
 -- `reader::numbers::number_at` meets its contract.
-use native.Mathlib.Omega.{arith}
 use mathlib.Core.Path.{refl, sym, ◌∙◌}
-use Rattle.rule.proofs.Machine.Digits.{number_digits}
 use Rattle.reader.proofs.Front.{front_number}
 use Rattle.reader.proofs.Moves.{done, step, break, ready_on}
 use Rattle.reader.proofs.Missed.{refuses}
-use borrow.Author.Rules.{rules}
 use borrow.Enum.Refused.{opened}
 use Rattle.reader.proofs.numbers.number_at.Goals as goal
 

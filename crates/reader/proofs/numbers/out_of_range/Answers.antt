@@ -1,7 +1,5 @@
 -- `reader::numbers::out_of_range` meets its contract, by how many digits there are.
-use native.Mathlib.Omega.{arith}
-use Rattle.rule.proofs.Machine.Digits.{digit_at, one_digit, many_digits, leading_zero, two_digits}
-use borrow.Author.Rules.{rules}
+use Rattle.rule.proofs.Machine.Digits.{one_digit, many_digits, leading_zero, two_digits}
 use Rattle.reader.proofs.numbers.out_of_range.Goals as goal
 
 pub returns-then-digits-eq1 : goal.returns-then-digits-eq1

@@ -1,7 +1,6 @@
 -- `reader::plain::cells_at` meets its contract.
 use mathlib.Core.List.{[]}
 use Rattle.reader.proofs.Moves.{went_ready, then, stop}
-use borrow.Author.Rules.{rules}
 use Rattle.reader.proofs.plain.cells_at.Goals as goal
 
 pub returns-in_default : goal.returns-in_default

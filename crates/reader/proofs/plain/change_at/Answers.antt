@@ -4,7 +4,6 @@ use Rattle.rule.specs.Inside.Class.{Fixed}
 use Rattle.reader.proofs.Front.{told_sign}
 use Rattle.reader.proofs.Moves.{step, ready_on}
 use Rattle.reader.proofs.Missed.{refuses, refuses_sign}
-use borrow.Author.Rules.{rules}
 use borrow.Enum.Refused.{opened}
 use Rattle.reader.proofs.plain.change_at.Goals as goal
 

@@ -3,7 +3,6 @@ use mathlib.Core.Path.{refl}
 use mathlib.Core.List.{[]}
 use Rattle.rule.specs.Inside.Class.{Fixed}
 use Rattle.reader.proofs.Moves.{went_ready, then, stop}
-use borrow.Author.Rules.{rules}
 use Rattle.reader.proofs.plain.close_at.Goals as goal
 
 pub returns-in_default : goal.returns-in_default

@@ -5,7 +5,6 @@ use Rattle.reader.proofs.Front.{told_sign}
 use Rattle.reader.proofs.Moves.{onward, step, ready_on}
 use Rattle.reader.proofs.Missed.{refuses_sign}
 use Rattle.reader.proofs.Peek.{not_sort, no_minus_here}
-use borrow.Author.Rules.{rules}
 use borrow.Enum.Refused.{opened}
 use Rattle.reader.proofs.plain.distance_at.Goals as goal
 

@@ -4,7 +4,6 @@ use Rattle.rule.specs.Inside.Class.{Fixed}
 use Rattle.reader.proofs.Front.{told_word}
 use Rattle.reader.proofs.Moves.{step, ready_on}
 use Rattle.reader.proofs.Missed.{refuses, refuses_word}
-use borrow.Author.Rules.{rules}
 use borrow.Enum.Refused.{opened}
 use Rattle.reader.proofs.programs.string_at.Goals as goal
 

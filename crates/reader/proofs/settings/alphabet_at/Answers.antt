@@ -5,7 +5,6 @@ use Rattle.rule.specs.Inside.Class.{Fixed}
 use Rattle.reader.specs.Inside.Answers.{alphabet_of}
 use Rattle.reader.proofs.Moves.{went_ready, then, stop}
 use Rattle.reader.proofs.Listed.{without}
-use borrow.Author.Rules.{rules}
 use Rattle.reader.proofs.settings.alphabet_at.Goals as goal
 
 pub returns-in_default : goal.returns-in_default

@@ -2,10 +2,9 @@
 use mathlib.Core.Path.{refl}
 use Rattle.reader.specs.Inside.Answers.{alphabet_of}
 use Rattle.reader.proofs.Front.{told_word}
-use Rattle.reader.proofs.Moves.{went_ready, step, then, stop, ready_on}
+use Rattle.reader.proofs.Moves.{went_ready, step, then, ready_on}
 use Rattle.reader.proofs.Missed.{refuses, refuses_word}
 use Rattle.reader.proofs.Listed.{refused_behind}
-use borrow.Author.Rules.{rules}
 use borrow.Enum.Refused.{opened}
 use Rattle.reader.proofs.settings.alphabet_first_at.Goals as goal
 

@@ -5,7 +5,6 @@ use Rattle.reader.proofs.Front.{told_word}
 use Rattle.reader.proofs.Moves.{went_ready, step, then, stop, ready_on}
 use Rattle.reader.proofs.Missed.{refuses, refuses_word}
 use Rattle.reader.proofs.Listed.{without}
-use borrow.Author.Rules.{rules}
 use borrow.Enum.Refused.{opened}
 use Rattle.reader.proofs.settings.decrement_first_at.Goals as goal
 

@@ -4,7 +4,6 @@ use Rattle.reader.proofs.Front.{front_letter}
 use Rattle.reader.proofs.Moves.{done, step, break, ready_on}
 use Rattle.reader.proofs.Missed.{refuses}
 use Rattle.reader.proofs.Listed.{repeated, seventeenth, another, with_letter_lem, refused_behind}
-use borrow.Author.Rules.{rules}
 use borrow.Enum.Refused.{opened}
 use Rattle.reader.proofs.settings.letter_at.Goals as goal
 

@@ -1,12 +1,10 @@
 -- `reader::settings::letters_at` meets its contract: each turn of the loop takes a letter and a comma.
-use Prim.Native.Nat.{ℕ, ◌-◌}
+use Prim.Native.Nat.{ℕ}
 use native.Mathlib.Omega.{arith}
 use mathlib.Core.Path.{refl, sym, subst}
 use mathlib.Core.List.{List, [], ◌∷◌}
-use lib.ListN.{length}
-use borrow.Author.Rules.{rules}
 use Rattle.rule.specs.Inside.Machine as Machine
-use Rattle.reader.specs.Inside.Answers.{alphabet_of, Sized, totals, spot, ComesTo, Ready}
+use Rattle.reader.specs.Inside.Answers.{totals, spot, ComesTo}
 use Rattle.reader.proofs.Front.{front_sign, told_sign}
 use Rattle.reader.proofs.Moves.{stand, moves, comes_then, went, went_ready, went_forth, onward, done, step, then, stop, ready_on}
 use Rattle.reader.proofs.Missed.{refuses, refuses_sign}

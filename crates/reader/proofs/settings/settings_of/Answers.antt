@@ -1,10 +1,9 @@
 -- `reader::settings::settings_of` meets its contract.
 use mathlib.Core.Path.{refl}
 use Rattle.reader.proofs.Front.{told_word}
-use Rattle.reader.proofs.Moves.{step, over, ready_on, ready_start}
+use Rattle.reader.proofs.Moves.{step, over}
 use Rattle.reader.proofs.Missed.{refuses, refuses_word}
 use Rattle.reader.proofs.Listed.{without}
-use borrow.Author.Rules.{rules}
 use borrow.Enum.Refused.{opened}
 use Rattle.reader.proofs.settings.settings_of.Goals as goal
 

@@ -5,7 +5,6 @@ use Rattle.rule.specs.Inside.Class.{Fixed}
 use Rattle.reader.proofs.Front.{told_word}
 use Rattle.reader.proofs.Moves.{went_ready, step, then, stop, ready_on}
 use Rattle.reader.proofs.Missed.{refuses, refuses_word}
-use borrow.Author.Rules.{rules}
 use borrow.Enum.Refused.{opened}
 use Rattle.reader.proofs.settings.truth_at.Goals as goal
 

@@ -1,42 +1,11 @@
 -- The cycle of calls of the readers of blocks and statements. Each call is nearer to the text's end, or of lower rank at the same
 -- byte: an `if` above what it guards, statements above a statement, arms and what is guarded above a block.
-use native.Mathlib.Omega.{arith}
-use mathlib.Core.Path.{refl}
 use mathlib.Core.List.{[], ◌∷◌}
 use lib.ListN.{length}
-use borrow.Author.Rules.{rules}
-use Rattle.bits.specs.Byte.{spelling}
-use Rattle.text.specs.declared.Word.TheVariants as Word
-use Rattle.rule.specs.Inside.Class.{Fixed}
 use Rattle.rule.specs.Inside.Machine.{block, statements, arms}
 use Rattle.reader.specs.Inside.Answers.{alphabet_of, totals, spot, ComesTo, Ready}
-use Rattle.reader.proofs.Front.{front_sign, front_word, told_sign, told_word}
-use Rattle.reader.proofs.Moves.{
-  stand,
-  went,
-  went_ready,
-  went_forth,
-  past_went,
-  comes_then,
-  onward,
-  done,
-  step,
-  then,
-  stop,
-  stay,
-  over,
-  eats,
-  break,
-  counts_plus,
-  ready_on,
-  ready_plus,
-}
-use Rattle.reader.proofs.Missed.{missed_sort, missed_word, refuses, refuses_sign, refuses_word}
-use Rattle.reader.proofs.Tested.{nor_sign}
-use Rattle.reader.proofs.Operators.{none_left, some_left, one_deeper, no_sign_first}
-use Rattle.reader.proofs.Peek.{not_sort, not_word, no_else_here}
-use Rattle.reader.proofs.Branches.{behind_arms, next_arm, ninth_arm, last_arm_lem}
-use Prim.Native.Nat.{ℕ, ◌+◌, ◌*◌, ◌-◌, ◌≤◌, ◌<◌}
+use Rattle.reader.proofs.Branches.{behind_arms}
+use Prim.Native.Nat.{◌+◌, ◌*◌, ◌-◌, ◌≤◌}
 use Rattle.reader.proofs.statements.+statements.Given as goal
 
 abbrev pub decreases-block_at : goal.decreases-block_at

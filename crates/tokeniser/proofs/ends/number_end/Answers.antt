@@ -1,12 +1,6 @@
 -- `tokeniser::ends::number_end` meets its contract. The loop's invariant: wherever the run from here ends, the whole run does.
-use Prim.Native.Nat.{ℕ, ◌-◌}
-use native.Mathlib.Omega.{arith}
 use mathlib.Core.Path.{sym, ◌∙◌}
-use lib.ListN.{length}
-use borrow.Author.Rules.{rules}
-use borrow.Author.Tests.{not-true, not-false}
-use Rattle.bits.specs.Byte.{is_digit}
-use Rattle.tokeniser.specs.Inside.Tokenising.{Run, over, stop, on}
+use Rattle.tokeniser.specs.Inside.Tokenising.{over, stop, on}
 use Rattle.tokeniser.proofs.ends.number_end.Goals as goal
 
 pub returns-then-not-is_digit : goal.returns-then-not-is_digit

@@ -1,12 +1,8 @@
 -- `tokeniser::ends::word_end` meets its contract. The loop's invariant: wherever the run from here ends, the whole run does.
 use Prim.Native.Nat.{ℕ, ◌-◌}
-use native.Mathlib.Omega.{arith}
-use mathlib.Core.Path.{sym, ◌∙◌}
 use lib.ListN.{length}
-use borrow.Author.Rules.{rules}
-use borrow.Author.Tests.{not-true, not-false}
 use Rattle.text.specs.Token.{in_word}
-use Rattle.tokeniser.specs.Inside.Tokenising.{Run, over, stop, on}
+use Rattle.tokeniser.specs.Inside.Tokenising.{Run}
 use Rattle.tokeniser.proofs.ends.word_end.Given as goal
 
 abbrev pub invariant-loop-i : goal.invariant-loop-i

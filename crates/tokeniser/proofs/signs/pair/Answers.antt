@@ -1,7 +1,6 @@
 -- `tokeniser::signs::pair` meets its contract: a sign of two bytes ends with an equals sign, or is one byte twice, and the keys are the first bytes of these.
 use mathlib.Core.List.{[], ◌∷◌}
-use borrow.Author.Rules.{rules}
-use Rattle.tokeniser.proofs.Signing.{no_ending, no_mixed, no_double, twice}
+use Rattle.tokeniser.proofs.Signing.{no_ending, no_mixed, no_double}
 use Rattle.tokeniser.proofs.signs.pair.Goals as goal
 
 pub returns-in_default : goal.returns-in_default

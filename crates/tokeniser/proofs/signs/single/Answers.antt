@@ -1,6 +1,5 @@
 -- `tokeniser::signs::single` meets its contract: its keys are the signs of one byte.
 use mathlib.Core.List.{[], ◌∷◌}
-use borrow.Author.Rules.{rules}
 use Rattle.tokeniser.proofs.Signing.{no_single}
 use Rattle.tokeniser.proofs.signs.single.Goals as goal
 

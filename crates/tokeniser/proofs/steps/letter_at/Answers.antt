@@ -1,9 +1,7 @@
 -- `tokeniser::steps::letter_at` meets its contract: each test rules a letter out, or all are passed.
 use native.Mathlib.Omega.{arith}
 use mathlib.Core.Path.{sym, ◌∙◌}
-use borrow.Author.Tests.{not-true, not-false}
 use Rattle.tokeniser.proofs.Standing.{letter_first, letter_short, letter_other, letter_open}
-use borrow.Author.Rules.{rules}
 use Rattle.tokeniser.proofs.steps.letter_at.Goals as goal
 
 pub returns-then-text-at-lt3 : goal.returns-then-text-at-lt3

@@ -1,6 +1,5 @@
 -- `tokeniser::steps::number_at` meets its contract: the run ends where the number does.
 use Rattle.tokeniser.proofs.Standing.{number_first}
-use borrow.Author.Rules.{rules}
 use Rattle.tokeniser.proofs.steps.number_at.Goals as goal
 
 pub returns : goal.returns

@@ -1,6 +1,5 @@
 -- `tokeniser::steps::sign_at` meets its contract: the longest sign is the pair, or else the single byte.
 use Rattle.tokeniser.proofs.Standing.{pair_first, single_first, neither_first}
-use borrow.Author.Rules.{rules}
 use Rattle.tokeniser.proofs.steps.sign_at.Goals as goal
 
 pub returns-in-Sign : goal.returns-in-Sign

@@ -1,7 +1,6 @@
 -- `tokeniser::steps::slash_at` meets its contract: a second slash tells.
 use mathlib.Core.Path.{sym, ◌∙◌}
 use Rattle.tokeniser.proofs.Standing.{comment_skips, slash_bad}
-use borrow.Author.Rules.{rules}
 use Rattle.tokeniser.proofs.steps.slash_at.Goals as goal
 
 pub returns-then-byte_at-ne47 : goal.returns-then-byte_at-ne47

@@ -1,9 +1,8 @@
 -- `tokeniser::steps::step_at` meets its contract: each kind is told by its test, which its function requires.
 use lib.ListN.{get_or}
-use Rattle.tokeniser.specs.declared.kinds.Kind.TheVariants.{Digit, Alphabetic, Underscore, Quote, White, Slash, Sign, Other}
+use Rattle.tokeniser.specs.declared.kinds.Kind.TheVariants.{White, Other}
 use Rattle.tokeniser.proofs.Sorting.{told}
 use Rattle.tokeniser.proofs.Standing.{white_skips, other_bad}
-use borrow.Author.Rules.{rules}
 use Rattle.tokeniser.proofs.steps.step_at.Goals as goal
 
 pub returns-in-White : goal.returns-in-White

@@ -1,7 +1,6 @@
 -- `tokeniser::steps::word_at` meets its contract: the run ends where the word does.
 use native.Mathlib.Omega.{arith}
 use Rattle.tokeniser.proofs.Standing.{word_first, run-onward, run_within}
-use borrow.Author.Rules.{rules}
 use Rattle.tokeniser.proofs.steps.word_at.Goals as goal
 
 pub slice_bounds-word_of-count : goal.slice_bounds-word_of-count

@@ -1,5 +1,4 @@
 -- `tokeniser::words::block_word` meets its contract: bytes that compare equal are that word, and those that differ from all are handed on as none of them.
-use borrow.Author.Rules.{rules}
 use Rattle.text.proofs.Named.{◌nor◌}
 use Rattle.text.proofs.Named.{differs}
 use Rattle.tokeniser.proofs.words.block_word.Goals as goal

@@ -1,5 +1,4 @@
 -- `tokeniser::words::condition_word` meets its contract: bytes that compare equal are that word, and those that differ from all are another.
-use borrow.Author.Rules.{rules}
 use Rattle.text.proofs.Named.{◌nor◌}
 use Rattle.text.proofs.Named.{differs, none_of_all}
 use Rattle.tokeniser.proofs.words.condition_word.Goals as goal

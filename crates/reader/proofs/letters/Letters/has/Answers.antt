@@ -1,10 +1,7 @@
 -- `reader::letters::Letters::has` meets its contract: what is left to look at has the letter exactly when the whole has.
-use Prim.Native.Nat.{◌-◌, ◌≤◌}
 use native.Mathlib.Omega.{arith}
-use mathlib.Core.Path.{◌≡◌, refl, sym, ◌∙◌}
-use lib.ListN.{take, drop}
+use mathlib.Core.Path.{sym, ◌∙◌}
 use lib.Seq.{get_or-take}
-use Rattle.rule.specs.Limits.{is_in}
 use Rattle.reader.specs.Inside.Answers.{alphabet_of}
 use Rattle.reader.proofs.Alphabet.{found_here, look_on, found_nowhere, alphabet_length}
 use Rattle.reader.proofs.letters.Letters.has.Goals as goal
