@@ -42,14 +42,21 @@ program() {
 archive() { alone build_archive "$1"; }
 
 build_archive() {
-  local log=$out/staticlib-$1.log lib=$root/target/staticlib/lib$1.a
-  if [ ! -f "$lib" ] || [ -n "$(find crates crates.txt -newer "$lib" -print -quit)" ]; then
-    if ! rt staticlib "$1" >"$log" 2>&1; then
+  local log=$out/lib-$1.log lib=$root/crates/$1/out/lib$1.a
+  if [ ! -f "$lib" ] || changed "$lib"; then
+    if ! (cd "$root/crates/$1" && rt lib) >"$log" 2>&1; then
       tail -n 20 "$log" >&2
       return 1
     fi
+    # with no change in what it is made of, rt may leave it as it is
+    touch "$lib"
   fi
   echo "$lib"
+}
+
+# changed FILE: whether a file or folder of a crate has changed since this one was made; what rt keeps in out/ is no part of it
+changed() {
+  [ crates.txt -nt "$1" ] || [ -n "$(find crates -mindepth 2 -name out -prune -o -newer "$1" -print -quit)" ]
 }
 
 # proved NAME: the path of a proved program, which is proved and linked first if a file has changed since. PROGRAMS=FOLDER takes
@@ -57,14 +64,16 @@ build_archive() {
 proved() { alone build_program "$1"; }
 
 build_program() {
-  local log=$out/check-$1.log bin=$root/target/bin/$1
+  local log=$out/run-$1.log bin=$root/crates/$1/out/$1
   if [ -n "${PROGRAMS:-}" ]; then
     bin=$PROGRAMS/$1
-  elif [ ! -x "$bin" ] || [ -n "$(find crates crates.txt -newer "$bin" -print -quit)" ]; then
-    if ! rt check "$1" >"$log" 2>&1; then
+  elif [ ! -x "$bin" ] || changed "$bin"; then
+    # rt links a program only to run it: here once, with nothing to read
+    if ! (cd "$root/crates/$1" && rt run </dev/null) >"$log" 2>&1; then
       tail -n 20 "$log" >&2
       return 1
     fi
+    touch "$bin"
   fi
   echo "$bin"
 }
