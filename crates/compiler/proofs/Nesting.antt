@@ -409,6 +409,7 @@ record Choice (into over p next : ℕ) (ts us : Ts) (part : Part) : Type 0 where
   pub outside : over < next
 
 choice : {into over : ℕ} {alphabet : List ℕ} {p next k : ℕ} {ts us : Ts} {part : Part} → EntryTask into over alphabet p next ((w "choose" at k) ∷ ts) us part → Choice into over p next ts us part
+choice {into = into} {over = over} {alphabet = alphabet} {p = p} {next = next} {k = k} {ts = ts} {us = us} {part = part} (asks x4) = elim x4 [ ]
 choice (chooses inside outside) = record { same = refl; is = refl; inside = inside; outside = outside }
 
 asked_only : {text : List ℕ} {from k e b : ℕ} {x : Word} {g : Sign} {into over : ℕ} {alphabet : List ℕ} {p next : ℕ} {ts us : Ts} {part : Part}

@@ -280,6 +280,7 @@ negated : {to : ℕ} {sign : Bool} {alphabet : List ℕ} {p next q : ℕ} {ts us
     → WalkTask tightest to sign alphabet p next ((s "!" at q) ∷ ts) us part
     → WalkTask tightest to (not sign) alphabet p next ts us part
 unfolding walk ConditionWithin
+negated {to = to} {sign = sign} {alphabet = alphabet} {p = p} {next = next} {q = q} {ts = ts} {us = us} (walks (atom {a = a} x8) closes within below) = elim x8 [ ]
 negated (walks (negation d) closes within below) = walks d by_any within below
 
 pub record Inside (to : ℕ) (sign : Bool) (alphabet : List ℕ) (p next : ℕ) (ts us : Ts) (part : Part) : Type 0 where
@@ -290,6 +291,7 @@ pub enclosed : {to : ℕ} {sign : Bool} {alphabet : List ℕ} {p next q : ℕ} {
     → WalkTask tightest to sign alphabet p next ((s "(" at q) ∷ ts) us part
     → Inside to sign alphabet p next ts us part
 unfolding walk ConditionWithin
+enclosed {to = to} {sign = sign} {alphabet = alphabet} {p = p} {next = next} {q = q} {ts = ts} {us = us} (walks (atom {a = a} x8) closes within below) = elim x8 [ ]
 enclosed (walks (parens d) closes within below) = record { place = _; inner = walks d by_paren within below }
 
 atom_only : {text : List ℕ} {from k e b : ℕ} {x : Word} {g : Sign} {to : ℕ} {sign : Bool} {alphabet : List ℕ} {p next : ℕ} {ts us : Ts} {part : Part}

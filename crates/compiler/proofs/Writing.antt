@@ -1,15 +1,15 @@
 -- The image while it is written: a row more at its place, an accept bit more, the header around the letters, and the whole.
-use Prim.Native.Nat.{ℕ, suc, ◌+◌, ◌-◌, ◌*◌, ◌/◌, ◌%◌, ◌≤◌, ◌<◌}
+use native.Mathlib.Nat.{le_refl, zero-add, zero-lt-suc, le_of_suc-le-suc}
+use Prim.Native.Nat.{ℕ, zero, suc, suc-le-suc, ◌+◌, ◌-◌, ◌*◌, ◌/◌, ◌%◌, ◌≤◌, ◌<◌}
 use native.Mathlib.Omega.{arith}
 use mathlib.Core.Path.{◌≡◌, refl, sym, ◌∙◌, ap}
 use mathlib.Core.Bool.{Bool, true, false}
 use mathlib.Core.List.{List, [], ◌∷◌, ◌++◌, append_assoc, append-nil}
 use lib.ListN.{length, get_or, take, drop, replicate, length-append, length-drop, length-take}
-use lib.Seq.{take_at, drop_at, length-take-le}
+use lib.Seq.{take_at, drop_at, length-take-le, drop-cons, drop-length}
 use lib.Dec.{eqb}
 use borrow.Author.Tests.{eq-eqb, ne_eqb}
 use native.Mathlib.Decide.{ℕ_discrete}
-use Rattle.bytes.specs.Bytes.{slice, index_of, index_after}
 use Rattle.bits.specs.Bit.{with_bit}
 use Rattle.bits.proofs.Over.{over-behind}
 use Rattle.table.specs.Form.{first_edition, letters_place, accepting_place, accepting_bytes, rows_place, row_width}
@@ -125,28 +125,30 @@ length_lead : (h : Sheet) → length (lead h) ≡ length h.alphabet + letters_pl
 unfolding lead
 length_lead h = simp (length-append, length-field) (omega arith)
 
--- what a letter's index is
-eqb_turned : (a b : ℕ) → eqb a b ≡ eqb b a
-eqb_turned a b = by_cases (ℕ_discrete a b)
-  where
-    by_cases : Dec (a ≡ b) → eqb a b ≡ eqb b a
-    by_cases (yes e) = eq-eqb a b e ∙ sym (eq-eqb b a (sym e))
-    by_cases (no n) = ne_eqb a b n ∙ sym (ne_eqb b a (λ e. n (sym e)))
+-- the index of a byte, told from those before a place that are others
+index_passed : (xs : List ℕ) (b n : ℕ) → n ≤ length xs → ((k : ℕ) → k < n → ¬ (get_or xs k 0 ≡ b)) → index_in xs b ≡ n + index_in (drop n xs) b
+unfolding index_in
+index_passed xs b zero low others = sym (zero-add (index_in xs b))
+index_passed [] b (suc n) low others = absurd (omega arith)
+index_passed (x ∷ xs) b (suc n) low others =
+    let other : eqb b x ≡ false = ne_eqb b x (λ e. others 0 (zero-lt-suc n) (sym e)) in
+    let rest : index_in xs b ≡ n + index_in (drop n xs) b = index_passed xs b n (le_of_suc-le-suc low) (λ k l. others (suc k) (suc-le-suc l)) in
+    rw (other, index_in) (omega (arith, rest))
 
-index_same : (xs : List ℕ) (b : ℕ) → index_of b xs ≡ index_in xs b
-unfolding index_of index_after index_in
-index_same [] b = refl
-index_same (x ∷ xs) b = ap (λ (t : Bool). index_after t (index_of b xs)) (eqb_turned x b) ∙ by_cases (eqb b x) (index_same xs b)
-  where
-    by_cases : (t : Bool) → index_of b xs ≡ index_in xs b → index_after t (index_of b xs) ≡ elim t [ true ↦ 0 | false ↦ suc (index_in xs b) ]
-    by_cases true e = refl
-    by_cases false e = ap suc e
+-- it is found where it stands
+pub index_found : (xs : List ℕ) (b n : ℕ) → n < length xs → ((k : ℕ) → k < n → ¬ (get_or xs k 0 ≡ b)) → get_or xs n 0 ≡ b → n ≡ index_in xs b
+unfolding index_in
+index_found xs b n low others here =
+    let is : eqb b (get_or xs n 0) ≡ true = eq-eqb b (get_or xs n 0) (sym here) in
+    let from : index_in (drop n xs) b ≡ 0 = rw (drop-cons xs n 0 low) (rw (is, index_in) refl) in
+    omega (arith, index_passed xs b n (omega arith) others, from)
 
--- an index is counted from the first letter's place
-pub index_back : (b : ℕ) (out : List ℕ) {r n k i : ℕ} → r ≡ letters_place + index_of b (slice letters_place (n + letters_place) out) → n ≡ k → index_of b (slice letters_place (k + letters_place) out) ≡ i → r - letters_place ≡ i
-index_back b out {n = n} {k = k} e same f =
-    let moved : index_of b (slice letters_place (n + letters_place) out) ≡ index_of b (slice letters_place (k + letters_place) out) = ap (λ (m : ℕ). index_of b (slice letters_place (m + letters_place) out)) same in
-    omega arith
+-- where none is it, the index is their number
+pub index_nowhere : (xs : List ℕ) (b : ℕ) → ((k : ℕ) → k < length xs → ¬ (get_or xs k 0 ≡ b)) → length xs ≡ index_in xs b
+unfolding index_in
+index_nowhere xs b others =
+    let none : index_in (drop (length xs) xs) b ≡ 0 = rw (drop-length xs) refl in
+    omega (arith, index_passed xs b (length xs) (le_refl (length xs)) others, none)
 
 module _ {h : Sheet} {accepting : List ℕ} {rows : List Row} {out : List ℕ} (holds : Holds h accepting rows out) where
   held_lead : out ≡ lead h ++ (rest h accepting rows ++ drop (row_place h rows) h.old)
@@ -171,16 +173,17 @@ module _ {h : Sheet} {accepting : List ℕ} {rows : List Row} {out : List ℕ} (
   held_count = ap (λ (l : List ℕ). get_or l 6 0) held_lead ∙ omega (arith, holds.few)
 
   -- and they stand behind it
-  pub held_letters : slice letters_place (length h.alphabet + letters_place) out ≡ h.alphabet
-  unfolding lead field two_bytes slice
+  pub held_letters : take (length h.alphabet) (drop letters_place out) ≡ h.alphabet
+  unfolding lead field two_bytes
   held_letters =
-      let all = lead h ++ (rest h accepting rows ++ drop (row_place h rows) h.old) in
-      let n = length h.alphabet + letters_place in
-      ap (λ (l : List ℕ). drop letters_place (take n l)) held_lead
-      ∙ ap (drop letters_place) (take_at (lead h) (rest h accepting rows ++ drop (row_place h rows) h.old) n (length_lead h))
+      ap (λ (l : List ℕ). take (length h.alphabet) (drop letters_place l)) held_lead
+      ∙ take_at h.alphabet (rest h accepting rows ++ drop (row_place h rows) h.old) (length h.alphabet) refl
 
-  pub held_index : (b : ℕ) → index_of b (slice letters_place (length h.alphabet + letters_place) out) ≡ index_in h.alphabet b
-  held_index b = ap (index_of b) held_letters ∙ index_same h.alphabet b
+  -- a letter's index among them, where it is looked for in the part of the image that they take
+  pub held_index : (b r n : ℕ) → r ≡ index_in (take (n + letters_place - letters_place) (drop letters_place out)) b → n ≡ length h.alphabet → r ≡ index_in h.alphabet b
+  held_index b r n found many =
+      let shown : n + letters_place - letters_place ≡ length h.alphabet = omega arith in
+      found ∙ ap (λ (l : List ℕ). index_in l b) (ap (λ (k : ℕ). take k (drop letters_place out)) shown ∙ held_letters)
 
 bits_more : (accepting bytes : List ℕ) (state : ℕ) → with_bits bytes (accepting ++ (state ∷ [])) ≡ with_bit (with_bits bytes accepting) state
 unfolding with_bits

@@ -3,7 +3,7 @@
 ghost use Rattle.std.specs.Prelude.{◌+◌, ◌≤◌, ◌<◌, ◌/◌, ◌%◌, ◌≡◌, [], ◌∷◌, length};
 ghost use Rattle.table.specs.Image.{flag};
 ghost use Rattle.construction.specs.Compile.{image_room};
-ghost use Rattle.construction.specs.Construction.{test_row, free};
+ghost use Rattle.construction.specs.Construction.{test_row, free, index_in};
 ghost use Rattle.bits.specs.Inside.Over.{over};
 ghost use Rattle.compiler.specs.Inside.Writing.{Held, Room, Writes, Marks, Heads, Indexes, Counts};
 
@@ -34,7 +34,8 @@ fn put(out: &mut [u8], at: usize, bytes: &[u8])
     requires { at + length bytes.now ≤ length out.old }
     ensures { out.new ≡ over out.old at bytes.now }
 {
-    bytes::copy(bytes, &mut out[at..]);
+    let end = at + bytes.len();
+    out[at..end].copy_from_slice(bytes);
 }
 
 const ACCEPTING: u8 = form::ACCEPTING_BYTES as u8;
@@ -144,13 +145,26 @@ pub fn letters(out: &[u8]) -> usize
     out[form::COUNT_PLACE] as usize
 }
 
+// How many bytes stand before the first that is this one.
+fn find(bytes: &[u8], byte: u8) -> usize
+    ensures index { result ≡ index_in bytes.now byte }
+    ensures inside { result ≤ length bytes.now }
+{
+    for (i, b) in bytes.iter().enumerate() {
+        if *b == byte {
+            return i;
+        }
+    }
+    bytes.len()
+}
+
 // A letter's index among them.
 pub fn letter(out: &[u8], byte: u8) -> u8
     requires { Held out.now }
     ensures { Indexes out.now byte result }
 {
     let end = letters(out) + form::LETTERS_PLACE;
-    (bytes::scan::find(out, form::LETTERS_PLACE, end, byte) - form::LETTERS_PLACE) as u8
+    find(&out[form::LETTERS_PLACE..end], byte) as u8
 }
 
 // A state's accept bit.
