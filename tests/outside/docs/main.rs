@@ -30,13 +30,9 @@ fn words_of(line: &str) -> impl Iterator<Item = &str> {
     line.split(|c: char| c.is_whitespace() || "(){}[],;".contains(c)).filter(|w| !w.is_empty())
 }
 
-/// `Rattle·rule·specs.specs.Tree` and `Rattle·rule.specs.Tree` are the file rule/specs/Tree.antt.
+/// `Rattle.rule.specs.Tree` is the file rule/specs/Tree.antt.
 fn file_of(module: &str) -> Option<String> {
-    let (name, rest) = module.strip_prefix("Rattle·")?.split_once('.')?;
-    let (name, rest) = match name.split_once('·') {
-        Some((name, _)) => (name, rest),
-        None => (name, rest),
-    };
+    let (name, rest) = module.strip_prefix("Rattle.")?.split_once('.')?;
     Some(format!("{name}/{}.antt", rest.replace('.', "/")))
 }
 
@@ -155,9 +151,9 @@ fn read(path: &Path) -> String {
     fs::read_to_string(path).unwrap_or_else(|e| panic!("{}: {e}", path.display()))
 }
 
-/// The definition that a word of a file stands for. `_then_` is written `then`.
+/// The definition that a word of a file stands for. `◌then◌` is written `then`.
 fn meant(word: &str, path: &str, file: &File) -> Option<Definition> {
-    let infix = format!("_{word}_");
+    let infix = format!("◌{word}◌");
     for name in [word, &infix] {
         if file.words.contains_key(name) {
             return Some((path.to_string(), name.to_string()));
