@@ -182,6 +182,13 @@ fn function_name(line: &str) -> Option<&str> {
     rest.strip_prefix("fn ").map(|r| r.split(|c: char| !(c.is_alphanumeric() || c == '_')).next().unwrap_or(r))
 }
 
+/// Whether the crate's root lets others see this function of a module.
+fn shows(root: &str, module: &str, name: &str) -> bool {
+    let uses = root.lines().filter_map(|l| l.strip_prefix("pub use ")?.trim_end_matches(';').split_once("::"));
+    let mut shown = uses.filter(|(from, _)| *from == module).flat_map(|(_, list)| list.trim_matches(['{', '}']).split(','));
+    root.contains(&format!("pub mod {module};")) || shown.any(|n| n.trim() == name)
+}
+
 fn read_code(folder: &Path, code: &mut Code) {
     let mut paths = Vec::new();
     files_below(&folder.join("src"), ".rt", &mut paths);
@@ -194,12 +201,12 @@ fn read_code(folder: &Path, code: &mut Code) {
         for (n, line) in lines.iter().enumerate() {
             let Some(name) = function_name(line) else { continue };
             code.all.insert(name.to_string());
-            let open = module == "lib" || lib.contains(&format!("pub mod {module};")) || lib.contains(&format!("pub use {module}::{name};"));
+            let open = module == "lib" || shows(&lib, &module, name);
             if !open || !line.trim_start().starts_with("pub ") {
                 continue;
             }
             let mut said = Names::new();
-            for line in lines[n..].iter().take_while(|l| **l != "{") {
+            for line in lines[n..].iter().take_while(|l| !l.ends_with('{')) {
                 if let Some((_, promise)) = line.split_once("ensures") {
                     said.extend(words_of(promise).map(str::to_string));
                 }
