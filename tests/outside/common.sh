@@ -39,43 +39,16 @@ program() {
 
 # archive NAME: proves a crate, makes its archive and prints the archive's path. An archive that is newer than every crate's
 # files and folders is taken as it is: the tests of one run share it.
-archive() { alone build_archive "$1"; }
-
-build_archive() {
-  local log=$out/lib-$1.log lib=$root/crates/$1/out/lib$1.a
-  if [ ! -f "$lib" ] || changed "$lib"; then
-    if ! (cd "$root/crates/$1" && rt lib) >"$log" 2>&1; then
-      tail -n 20 "$log" >&2
-      return 1
-    fi
-    # with no change in what it is made of, rt may leave it as it is
-    touch "$lib"
-  fi
-  echo "$lib"
-}
-
-# changed FILE: whether a file or folder of a crate has changed since this one was made; what rt keeps in out/ is no part of it
-changed() {
-  [ crates.txt -nt "$1" ] || [ -n "$(find crates -mindepth 2 -name out -prune -o -newer "$1" -print -quit)" ]
-}
+archive() { alone bash tests/built archive "$1"; }
 
 # proved NAME: the path of a proved program, which is proved and linked first if a file has changed since. PROGRAMS=FOLDER takes
 # the programs there instead, to try a test itself.
-proved() { alone build_program "$1"; }
-
-build_program() {
-  local log=$out/run-$1.log bin=$root/crates/$1/out/$1
+proved() {
   if [ -n "${PROGRAMS:-}" ]; then
-    bin=$PROGRAMS/$1
-  elif [ ! -x "$bin" ] || changed "$bin"; then
-    # rt links a program only to run it: here once, with nothing to read
-    if ! (cd "$root/crates/$1" && rt run </dev/null) >"$log" 2>&1; then
-      tail -n 20 "$log" >&2
-      return 1
-    fi
-    touch "$bin"
+    echo "$PROGRAMS/$1"
+  else
+    alone bash tests/built program "$1"
   fi
-  echo "$bin"
 }
 
 # words RULE COMMAND..: for each line beside a worked rule, COMMAND.. with the word, the limit and the verdict
