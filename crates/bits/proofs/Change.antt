@@ -52,8 +52,8 @@ pub bit-take_low : (m : List ℕ) (many i : ℕ) → bit (take many m) i ≡ 1 �
 bit-take_low m many i one = omega (arith, bit_inside (take many m) i one, length-take many m)
 
 -- what a bit is in bytes that are all 0
-get_d_zeros : (n i : ℕ) → ◌≡◌ {A = ℕ} (get_or (replicate n 0) i 0) 0
-get_d_zeros n i =
+get_or-zeros : (n i : ℕ) → ◌≡◌ {A = ℕ} (get_or (replicate n 0) i 0) 0
+get_or-zeros n i =
     elim (dec_lt i n) [
       | yes l ↦ get_or-replicate n i 0 0 l
       | no k ↦ get_or-eq_default (replicate n 0) 0 (omega (arith, length-replicate {A = ℕ} n 0))
@@ -61,10 +61,10 @@ get_d_zeros n i =
 
 pub bit_zeros : (n i : ℕ) → bit (replicate n 0) i ≡ 0
 unfolding bit
-bit_zeros n i = rw (get_d_zeros, zero-div) refl
+bit_zeros n i = rw (get_or-zeros, zero-div) refl
 
 pub bytes_zeros : (n : ℕ) → Bytes (replicate n 0)
-bytes_zeros n i = omega (arith, get_d_zeros n i)
+bytes_zeros n i = omega (arith, get_or-zeros n i)
 
 -- a list filled to its end is all 0
 pub filled : {m : List ℕ} (d : List ℕ) (i : ℕ) → i ≤ length d → length d ≤ i → m ≡ replicate i 0 ++ drop i d → m ≡ replicate (length d) 0

@@ -58,10 +58,10 @@ index_stands (x ∷ xs) b m = by_cases (eqb b x) refl (Memᴰ.cases_cons m) (ind
     by_cases false q (inr m) rest = record { below = suc-le-suc (rest m).below; finds = (rest m).finds }
 
 -- what stands at an index is a member
-pub get_d_mem : (l : List ℕ) (i : ℕ) → i < length l → Memᴰ (get_or l i 0) l
-get_d_mem [] i h = absurd (omega arith)
-get_d_mem (x ∷ xs) zero h = Memᴰ.head refl
-get_d_mem (x ∷ xs) (suc i) h = Memᴰ.tail (get_d_mem xs i (omega arith))
+pub get_or-mem : (l : List ℕ) (i : ℕ) → i < length l → Memᴰ (get_or l i 0) l
+get_or-mem [] i h = absurd (omega arith)
+get_or-mem (x ∷ xs) zero h = Memᴰ.head refl
+get_or-mem (x ∷ xs) (suc i) h = Memᴰ.tail (get_or-mem xs i (omega arith))
 
 -- in a list of different letters, a letter stands at one index
 pub index_once :
@@ -69,9 +69,9 @@ pub index_once :
 index_once [] i j once h k e = absurd (omega arith)
 index_once (x ∷ xs) zero zero once h k e = refl
 index_once (x ∷ xs) zero (suc j) once h k e =
-    absurd ((Nodup-cons.0 once).0 ∣ Memᴰ.cast e (get_d_mem xs j (omega arith)) ∣₁)
+    absurd ((Nodup-cons.0 once).0 ∣ Memᴰ.cast e (get_or-mem xs j (omega arith)) ∣₁)
 index_once (x ∷ xs) (suc i) zero once h k e =
-    absurd ((Nodup-cons.0 once).0 ∣ Memᴰ.cast (sym e) (get_d_mem xs i (omega arith)) ∣₁)
+    absurd ((Nodup-cons.0 once).0 ∣ Memᴰ.cast (sym e) (get_or-mem xs i (omega arith)) ∣₁)
 index_once (x ∷ xs) (suc i) (suc j) once h k e =
     ap suc (index_once xs i j (Nodup-cons.0 once).1 (omega arith) (omega arith) e)
 

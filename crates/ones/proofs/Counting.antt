@@ -1,6 +1,6 @@
 -- A count of ones is the size of the set of bits that are 1.
 use Prim.Native.Nat.{ℕ, zero, suc, ◌+◌, ◌-◌, ◌*◌, ◌/◌, ◌%◌, ◌^◌, ◌≤◌, ◌<◌, min}
-use native.Mathlib.Nat.{eq-or-lt_of_le, le_of_suc-le-suc, pow-suc, le_refl, add-zero, add-suc}
+use native.Mathlib.Nat.{eq-or-lt_of_le, le_of_suc-le-suc, pow-suc, add-zero}
 use native.Mathlib.Omega.{arith}
 use mathlib.Core.Path.{◌≡◌, refl, sym, ap, ap₂, subst, ◌∙◌}
 use mathlib.Core.Logic.{◌⊎◌, inl, inr, ⊎_elim, ∥∥₁_elim}
@@ -9,7 +9,6 @@ use mathlib.Core.List.Pairwise
 use mathlib.Core.List.{List, [], ◌∷◌, Memᴰ, Nodup}
 use lib.ListN.{length, get_or, take, length-take}
 use lib.Arith.{lt-one}
-use lib.Bits.{bit_or, or_add_and, and_le_l, and_le_r}
 use lib.Count.{ones, ones_step}
 use Rattle.bits.specs.Bit.{bit}
 use Rattle.bits.specs.Size.{Size}

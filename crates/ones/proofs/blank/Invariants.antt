@@ -1,8 +1,6 @@
 -- What was gathered is 0 exactly if the bytes passed are. The measure is what is left of them. Assumes nothing.
 use Prim.Native.Nat.{◌≤◌, ◌<◌, ◌-◌}
-use native.Mathlib.Omega.{arith}
-use borrow.Author.Rules.{rules}
-use Rattle.ones.proofs.Blanks.{Gathered, gathered_none, gathered_more, gathered_all}
+use Rattle.ones.proofs.Blanks.{Gathered}
 use Rattle.ones.proofs.blank.Given as goal
 
 abbrev pub invariant-loop-i : goal.invariant-loop-i

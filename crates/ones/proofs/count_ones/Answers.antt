@@ -1,9 +1,6 @@
 -- The sum is that of the bits of the bytes passed, 256 at a time. The measure is what is left of them. Assumes nothing.
-use Prim.Native.Nat.{◌≤◌, ◌-◌}
 use native.Mathlib.Omega.{arith}
-use borrow.Author.Rules.{rules}
-use Rattle.ones.specs.Inside.Between.{OnesBetween}
-use Rattle.ones.proofs.Counting.{ones_none, ones_both, ones_at_most, ones_all}
+use Rattle.ones.proofs.Counting.{ones_both, ones_at_most, ones_all}
 use Rattle.ones.proofs.count_ones.Goals as goal
 
 pub overflow_add-sum : goal.overflow_add-sum

@@ -1,11 +1,6 @@
 -- The sum is that of the bits of the bytes passed, at most eight for each. The measure is what is left of them. Assumes nothing.
-use Prim.Native.Nat.{◌≤◌, ◌+◌, ◌-◌}
 use native.Mathlib.Omega.{arith}
-use lib.ListN.{get_or}
-use lib.Count.{ones}
-use borrow.Author.Rules.{rules}
-use Rattle.ones.specs.Inside.Between.{OnesBetween}
-use Rattle.ones.proofs.Counting.{ones_none, ones_more, ones_at_most, ones_to, ones_blank}
+use Rattle.ones.proofs.Counting.{ones_more, ones_at_most, ones_blank}
 use Rattle.ones.proofs.ones_between.Goals as goal
 
 pub returns-then-blank : goal.returns-then-blank

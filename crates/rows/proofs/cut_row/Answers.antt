@@ -1,7 +1,6 @@
 -- The eight bytes of a row, from where it is read. Assumes nothing.
 use mathlib.Core.Path.{◌∙◌}
 use Rattle.table.proofs.Reading.{row_is_lem}
-use borrow.Author.Rules.{rules}
 use Rattle.rows.proofs.cut_row.Goals as goal
 
 pub returns : goal.returns

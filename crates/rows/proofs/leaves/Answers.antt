@@ -3,7 +3,6 @@ use Prim.Native.Nat.{ℕ}
 use mathlib.Core.Path.{ap, ◌∙◌}
 use lib.Dec.{eqb}
 use Rattle.table.proofs.Reading.{from_here}
-use borrow.Author.Rules.{rules}
 use Rattle.rows.proofs.leaves.Goals as goal
 
 pub returns-then-at-less : goal.returns-then-at-less

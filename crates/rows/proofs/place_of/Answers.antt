@@ -2,7 +2,6 @@
 use native.Mathlib.Omega.{arith}
 use mathlib.Core.Path.{sym, ◌∙◌}
 use Rattle.table.proofs.Reading.{here_past}
-use borrow.Author.Rules.{rules}
 use Rattle.rows.proofs.place_of.Goals as goal
 
 pub returns-else-at-rows : goal.returns-else-at-rows

@@ -1,11 +1,7 @@
 -- Where row i stands, and past the end the end. Assumes nothing.
-use Prim.Native.Nat.{ℕ}
-use native.Mathlib.Omega.{arith}
 use mathlib.Core.Path.{ap}
-use Rattle.table.specs.Form.{count_place}
 use Rattle.table.specs.Fields.{row_from}
 use Rattle.table.proofs.Reading.{place_inside, place-past}
-use borrow.Author.Rules.{rules}
 use Rattle.rows.proofs.row_place.Goals as goal
 
 pub returns-then-i-image : goal.returns-then-i-image

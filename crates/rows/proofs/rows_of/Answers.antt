@@ -1,6 +1,5 @@
 -- An image shows all its rows. Assumes nothing.
 use Rattle.table.proofs.Showing.{shown_range}
-use borrow.Author.Rules.{rules}
 use Rattle.rows.proofs.rows_of.Goals as goal
 
 pub returns : goal.returns

@@ -1,7 +1,6 @@
 -- The eight bytes of a row. Assumes that they stand there.
 use mathlib.Core.Path.{refl}
 use Rattle.table.proofs.Reading.{row_is_lem, last_two}
-use borrow.Author.Rules.{rules}
 use Rattle.rows.proofs.whole_row.Goals as goal
 
 pub returns : goal.returns
