@@ -39,34 +39,16 @@ program() {
 
 # archive NAME: proves a crate, makes its archive and prints the archive's path. An archive that is newer than every crate's
 # files and folders is taken as it is: the tests of one run share it.
-archive() { alone build_archive "$1"; }
-
-build_archive() {
-  local log=$out/staticlib-$1.log lib=$root/target/staticlib/lib$1.a
-  if [ ! -f "$lib" ] || [ -n "$(find crates crates.txt -newer "$lib" -print -quit)" ]; then
-    if ! rt staticlib "$1" >"$log" 2>&1; then
-      tail -n 20 "$log" >&2
-      return 1
-    fi
-  fi
-  echo "$lib"
-}
+archive() { alone bash tests/built archive "$1"; }
 
 # proved NAME: the path of a proved program, which is proved and linked first if a file has changed since. PROGRAMS=FOLDER takes
 # the programs there instead, to try a test itself.
-proved() { alone build_program "$1"; }
-
-build_program() {
-  local log=$out/check-$1.log bin=$root/target/bin/$1
+proved() {
   if [ -n "${PROGRAMS:-}" ]; then
-    bin=$PROGRAMS/$1
-  elif [ ! -x "$bin" ] || [ -n "$(find crates crates.txt -newer "$bin" -print -quit)" ]; then
-    if ! rt check "$1" >"$log" 2>&1; then
-      tail -n 20 "$log" >&2
-      return 1
-    fi
+    echo "$PROGRAMS/$1"
+  else
+    alone bash tests/built program "$1"
   fi
-  echo "$bin"
 }
 
 # words RULE COMMAND..: for each line beside a worked rule, COMMAND.. with the word, the limit and the verdict

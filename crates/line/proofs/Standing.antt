@@ -3,12 +3,16 @@ use Prim.Native.Nat.{ℕ, ◌+◌, ◌≤◌}
 use native.Mathlib.Omega.{arith}
 use mathlib.Core.Path.{◌≡◌, refl, sym, ◌∙◌, ap, subst}
 use mathlib.Core.List.{List, [], ◌++◌, append_assoc}
-use lib.ListN.{length, drop, length-append}
+use lib.ListN.{length, take, drop, length-append}
 use lib.Seq.{length-take-le}
 use Rattle.bits.specs.Inside.Over.{over}
 use Rattle.bits.proofs.Over.{over-behind}
-use Rattle.line.specs.Standing.{Stands, IsPrefixLen}
+use Rattle.line.specs.Standing.{Stands}
 use Rattle.line.specs.Inside.Adding.{Adds}
+
+-- a buffer has so many bytes, and so many are its first ones
+abbrev pub IsPrefixLen : ℕ → List ℕ → Type 0
+IsPrefixLen n bytes = (n ≤ length bytes) × (n ≡ length (take n bytes))
 
 -- no second result fits the promise of a function that writes a line: end and buffer are settled by the buffer as it was and the line
 pub stands_once

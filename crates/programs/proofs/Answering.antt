@@ -17,8 +17,8 @@ use Rattle.table.specs.Image.{encode}
 use Rattle.judgement.specs.Judge.{Judges}
 use Rattle.line.specs.CompileLine.{compile_line}
 use Rattle.line.specs.VerdictLine.{verdict_line, answer_of}
-use Rattle.line.specs.Standing.{Stands, IsPrefixLen}
-use Rattle.line.proofs.Standing.{prefix_len_of_le, front_counts, stands_counts}
+use Rattle.line.specs.Standing.{Stands}
+use Rattle.line.proofs.Standing.{IsPrefixLen, prefix_len_of_le, front_counts, stands_counts}
 use Rattle.programs.specs.declared.Answered.{Answered}
 use Rattle.programs.specs.CompileText.{image_bytes, AnswersText}
 use Rattle.programs.specs.declared.Limit.{Limit}

@@ -30,13 +30,9 @@ fn words_of(line: &str) -> impl Iterator<Item = &str> {
     line.split(|c: char| c.is_whitespace() || "(){}[],;".contains(c)).filter(|w| !w.is_empty())
 }
 
-/// `Rattle·rule·specs.specs.Tree` and `Rattle·rule.specs.Tree` are the file rule/specs/Tree.antt.
+/// `Rattle.rule.specs.Tree` is the file rule/specs/Tree.antt.
 fn file_of(module: &str) -> Option<String> {
-    let (name, rest) = module.strip_prefix("Rattle·")?.split_once('.')?;
-    let (name, rest) = match name.split_once('·') {
-        Some((name, _)) => (name, rest),
-        None => (name, rest),
-    };
+    let (name, rest) = module.strip_prefix("Rattle.")?.split_once('.')?;
     Some(format!("{name}/{}.antt", rest.replace('.', "/")))
 }
 
@@ -155,9 +151,9 @@ fn read(path: &Path) -> String {
     fs::read_to_string(path).unwrap_or_else(|e| panic!("{}: {e}", path.display()))
 }
 
-/// The definition that a word of a file stands for. `_then_` is written `then`.
+/// The definition that a word of a file stands for. `◌then◌` is written `then`.
 fn meant(word: &str, path: &str, file: &File) -> Option<Definition> {
-    let infix = format!("_{word}_");
+    let infix = format!("◌{word}◌");
     for name in [word, &infix] {
         if file.words.contains_key(name) {
             return Some((path.to_string(), name.to_string()));
@@ -186,6 +182,13 @@ fn function_name(line: &str) -> Option<&str> {
     rest.strip_prefix("fn ").map(|r| r.split(|c: char| !(c.is_alphanumeric() || c == '_')).next().unwrap_or(r))
 }
 
+/// Whether the crate's root lets others see this function of a module.
+fn shows(root: &str, module: &str, name: &str) -> bool {
+    let uses = root.lines().filter_map(|l| l.strip_prefix("pub use ")?.trim_end_matches(';').split_once("::"));
+    let mut shown = uses.filter(|(from, _)| *from == module).flat_map(|(_, list)| list.trim_matches(['{', '}']).split(','));
+    root.contains(&format!("pub mod {module};")) || shown.any(|n| n.trim() == name)
+}
+
 fn read_code(folder: &Path, code: &mut Code) {
     let mut paths = Vec::new();
     files_below(&folder.join("src"), ".rt", &mut paths);
@@ -198,12 +201,12 @@ fn read_code(folder: &Path, code: &mut Code) {
         for (n, line) in lines.iter().enumerate() {
             let Some(name) = function_name(line) else { continue };
             code.all.insert(name.to_string());
-            let open = module == "lib" || lib.contains(&format!("pub mod {module};")) || lib.contains(&format!("pub use {module}::{name};"));
+            let open = module == "lib" || shows(&lib, &module, name);
             if !open || !line.trim_start().starts_with("pub ") {
                 continue;
             }
             let mut said = Names::new();
-            for line in lines[n..].iter().take_while(|l| **l != "{") {
+            for line in lines[n..].iter().take_while(|l| !l.ends_with('{')) {
                 if let Some((_, promise)) = line.split_once("ensures") {
                     said.extend(words_of(promise).map(str::to_string));
                 }
