@@ -250,6 +250,8 @@ fn main() {
     // from the pages to the crates
     let mut pages: Vec<PathBuf> = vec!["README.md".into()];
     files_below(Path::new("docs"), ".md", &mut pages);
+    // it names what was, too
+    pages.retain(|page| !page.ends_with("PORT.md"));
     let mut defined: BTreeSet<Definition> = BTreeSet::new();
     for page in &pages {
         for name in quoted(&read(page)) {
