@@ -230,5 +230,4 @@ def main(root):
 
 if __name__ == "__main__":
     names = main(sys.argv[1] if len(sys.argv) > 1 else ".")
-    with open("/tmp/respelled.txt", "w", encoding="utf-8") as f:
-        f.writelines(f"{a}\t{b}\n" for a, b in sorted(names.items()))
+    sys.stdout.writelines(f"{a}\t{b}\n" for a, b in sorted(names.items()))

@@ -41,7 +41,7 @@ pub moves_right : (w : List ℕ) (code cell : ℕ) → code ≡ to_right → mov
 unfolding moved
 moves_right w code cell right = rw right refl
 
--- a move by what the code is above or below `noMove`, from the cell or, past it, from the right mark
+-- a move by what the code is above or below `no_move`, from the cell or, past it, from the right mark
 pub moves_by
     : (w : List ℕ) (code cell from by : ℕ) → ¬ (code ≡ to_left) → ¬ (code ≡ to_right) → from ≡ min cell (last w) → by ≡ code
     → moved w code cell ≡ min (from + by - no_move) (last w)
@@ -66,7 +66,7 @@ code_of_lem Variants.LeftMark = refl
 code_of_lem (Variants.Letter b) = refl
 code_of_lem Variants.RightMark = refl
 
--- so a promise of `symbolIs r` leaves no second r
+-- so a promise of `symbol_is r` leaves no second r
 pub symbol_once : (a b : Code.Symbol) → symbol_is a ≡ symbol_is b → a ≡ b
 symbol_once a b e = sym (code_of_lem a) ∙ ap code_of e ∙ code_of_lem b
 

@@ -16,7 +16,7 @@ unfoldable pub symbol_on : List ℕ → ℕ → Symbol
 symbol_on word zero = left_mark
 symbol_on word (suc i) = cond (ltb i (length word)) (letter (get_or word i 0)) right_mark
 
--- where a row's move leads from a cell: to a mark, else by what the code is above or below `noMove`, stopping at 0 and n + 1
+-- where a row's move leads from a cell: to a mark, else by what the code is above or below `no_move`, stopping at 0 and n + 1
 unfoldable pub moved : List ℕ → ℕ → ℕ → ℕ
 moved word code cell =
     cond (eqb code to_left) 0 (cond (eqb code to_right) (last word) (min (min cell (last word) + code - no_move) (last word)))

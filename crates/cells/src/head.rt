@@ -8,7 +8,7 @@ ghost use Rattle.cells.specs.Head.{Moves};
 
 use crate::Symbol;
 
-#[derive(Drop)]
+#[derive(Clone, Copy)]
 pub struct Head<'a> {
     pub word: &'a [u8],
     pub cell: usize,

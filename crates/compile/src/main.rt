@@ -5,7 +5,7 @@
 
 use files::Input;
 use std::env::{Env, FillError};
-use std::io::{Error, ErrorKind, Write};
+use std::io::Write;
 
 // The name that leads to the file behind standard input, whatever that file is called.
 const STANDARD_INPUT: &str = "/proc/self/fd/0";

@@ -44,7 +44,7 @@ use Rattle.construction.proofs.Every.{Every, every-nil, every-cons}
 use Rattle.construction.proofs.Codes.{walk-every}
 
 module _ (word : List ℕ) where
-  -- a move by what the code is above or below `noMove`
+  -- a move by what the code is above or below `no_move`
   moved_by :
       (code cell : ℕ) → to_left < code → code < to_right → moved word code cell ≡ min (min cell (last word) + code - no_move) (last word)
   unfolding moved
@@ -80,7 +80,7 @@ module _ (word : List ℕ) where
   plain_inside (subtract n) cell inside = inside
 
 module _ (decr_on_zero : Bool) where
-  -- a change by what the code is above or below `noChange`
+  -- a change by what the code is above or below `no_change`
   raises : (n counter : ℕ) → changed decr_on_zero (no_change + n) counter ≡ some (counter + n)
   unfolding changed
   raises n counter =

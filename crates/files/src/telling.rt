@@ -1,5 +1,5 @@
 // What a program says on standard error: a name, a colon and what is wrong, as perror writes it.
-ghost use Rattle.std.specs.Prelude.{◌++◌, OnOk};
+ghost use Rattle.std.specs.Prelude.{OnOk};
 ghost use Rattle.std.specs.Io.KnownBytes.{Appends};
 ghost use Rattle.files.specs.Telling.{told};
 

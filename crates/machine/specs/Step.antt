@@ -21,7 +21,7 @@ symbol_fits alphabet code right_mark = eqb code Form.right_mark || eqb code Form
 unfoldable pub counter_fits : ℕ → ℕ → Bool
 counter_fits test counter = eqb test (min counter 1) || eqb test Form.either_counter
 
--- the counter changed by what the code is above or below `noChange`; below zero it is zero where it stops there, and else the row can't be taken
+-- the counter changed by what the code is above or below `no_change`; below zero it is zero where it stops there, and else the row can't be taken
 unfoldable pub changed : Bool → ℕ → ℕ → Option ℕ
 changed decr_on_zero code counter =
     cond (leb Form.no_change (counter + code)) (some (counter + code - Form.no_change)) (cond decr_on_zero (some 0) none)

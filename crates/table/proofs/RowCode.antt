@@ -3,7 +3,7 @@ use mathlib.Core.Path.{◌≡◌}
 use Rattle.table.specs.declared.Row as Code
 use Rattle.table.specs.RowCode.{row_is}
 
--- `rowIs` is one-to-one: a promise of `rowIs r` leaves no second r
+-- `row_is` is one-to-one: a promise of `row_is r` leaves no second r
 pub row_once : {a b : Code.Row} → row_is a ≡ row_is b → a ≡ b
 row_once same = λ i. record {
   from = (same i).from;

@@ -22,7 +22,7 @@ above_zero = 1
 abbrev pub either_counter : ℕ
 either_counter = 2
 
--- Its move: to a mark, or by what it is above or below `noMove`
+-- Its move: to a mark, or by what it is above or below `no_move`
 abbrev pub to_left : ℕ
 to_left = 0
 
@@ -32,7 +32,7 @@ no_move = 64
 abbrev pub to_right : ℕ
 to_right = 128
 
--- Its change, by what it is above or below `noChange`, up to the highest
+-- Its change, by what it is above or below `no_change`, up to the highest
 abbrev pub no_change : ℕ
 no_change = 31
 

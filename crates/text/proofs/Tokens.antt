@@ -43,7 +43,7 @@ step_right b bs place (skip n) after h go = blank h (go n (blank_some h))
 step_right b bs place (found n t) after h go = found_then h (go n (found_some h))
 step_right b bs place bad after h go = none h.no_blank h.no_token
 
--- the bytes from a place on have the tokens that `scanFrom` gives
+-- the bytes from a place on have the tokens that `scan_from` gives
 pub scan_from_right : (fuel place : ℕ) (bytes : List ℕ) → length bytes < fuel → Scans place bytes (scan_from fuel place bytes)
 unfolding scan_from
 scan_from_right zero place bytes h = absurd (omega arith)
