@@ -34,7 +34,8 @@ fn at_most(n: usize, most: usize) -> usize
 pub fn looked(word: &[u8], cell: usize) -> Symbol
     ensures { symbol_is result ≡ symbol_on word.now cell }
 {
-    if cell == 0 {
+    let left = cell == 0;
+    if left {
         return Symbol::LeftMark;
     }
     let i = cell - 1;

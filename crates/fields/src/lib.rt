@@ -69,7 +69,8 @@ pub fn state_count(image: &[u8]) -> usize
 pub fn accepts(image: &[u8], s: usize) -> u8
     ensures { result ≡ bit (table_of image.now).accepting s }
 {
-    if s < 128 {
+    let inside = s < 128;
+    if inside {
         (bits::byte_at(
             image,
             letters(image) as usize + form::ACCEPTING_PLACE + s / 8,

@@ -132,7 +132,8 @@ pub fn search(
     let mut over = false;
     loop {
         let i = pick(marks, &mut hints);
-        if i == SITUATIONS {
+        let none = i == SITUATIONS;
+        if none {
             return over;
         }
         over = expand(image, rows, source, word, limit, i, over, marks, &mut hints);

@@ -47,7 +47,8 @@ fn letter_fits(image: &[u8], code: u8, b: u8) -> bool
 pub fn symbol_fits(image: &[u8], code: u8, seen: Symbol) -> bool
     ensures { result ≡ symbol_fits (table_of image.now).alphabet code (symbol_is seen) }
 {
-    if code == form::ANY_SYMBOL {
+    let any = code == form::ANY_SYMBOL;
+    if any {
         return true;
     }
     match seen {
@@ -61,7 +62,8 @@ pub fn symbol_fits(image: &[u8], code: u8, seen: Symbol) -> bool
 pub fn counter_fits(test: u8, counter: usize) -> bool
     ensures { result ≡ counter_fits test counter }
 {
-    if test == form::EITHER_COUNTER {
+    let either = test == form::EITHER_COUNTER;
+    if either {
         return true;
     }
     if counter == 0 {

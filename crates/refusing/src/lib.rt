@@ -55,7 +55,8 @@ pub fn first_reason(image: &[u8], word: &[u8], limit: u64) -> Asked
             place: 0,
         };
     }
-    if 62 < word.len() {
+    let long = 62 < word.len();
+    if long {
         return Asked::Refused {
             number: 22,
             place: 0,

@@ -4,14 +4,14 @@ use Rattle.cells.specs.Code.{symbol_is}
 use Rattle.cells.proofs.Cells.{on_left, on_letter_lem, on_right}
 use Rattle.cells.proofs.looked.Goals as goal
 
-pub returns-then-cell-eq0 : goal.returns-then-cell-eq0
+pub returns-then-left : goal.returns-then-left
 unfolding symbol_is
-returns-then-cell-eq0 c = sym (on_left _ _ c.if-cell-eq0.true)
+returns-then-left c = sym (on_left _ _ c.if-left.true)
 
 pub returns-then-i-word : goal.returns-then-i-word
 unfolding symbol_is
-returns-then-i-word c = sym (on_letter_lem _ _ c.if-cell-eq0.false c.if-i-word.true)
+returns-then-i-word c = sym (on_letter_lem _ _ c.if-left.false c.if-i-word.true)
 
 pub returns-else-i-word : goal.returns-else-i-word
 unfolding symbol_is
-returns-else-i-word c = sym (on_right _ _ c.if-cell-eq0.false c.if-i-word.false)
+returns-else-i-word c = sym (on_right _ _ c.if-left.false c.if-i-word.false)

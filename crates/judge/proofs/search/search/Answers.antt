@@ -8,4 +8,4 @@ loop-source-init c =
 
 pub loop-source-smaller : goal.loop-source-smaller
 loop-source-smaller c =
-    expand_falls (picked_waiting c.requires.sources c.loop-source.invariant c.pick-i.ensures c.if-i-eq-SITUATIONS.false) c.expand-over.ensures
+    expand_falls (picked_waiting c.requires.sources c.loop-source.invariant c.pick-i.ensures c.if-none.false) c.expand-over.ensures
