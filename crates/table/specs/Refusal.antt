@@ -1,5 +1,7 @@
 -- Refusals: each has a number and a place. An entry has reasons to refuse, in an order, and gives the first that holds.
 use Rattle.std.specs.Prelude.{ℕ, ◌+◌, ◌*◌, ◌≡◌, ◌⊎◌, List, [], ◌∷◌}
+use Rattle.table.specs.declared.reason.Reason.{Reason as Named}
+use Rattle.table.specs.declared.reason.Reason.TheVariants as Named
 
 -- which numbers and places a reason gives
 abbrev pub Reason : Type 1
@@ -21,3 +23,22 @@ First (r ∷ rs) number place = r number place ⊎ (((n p : ℕ) → ¬ r n p) �
 -- a refusal as one number
 abbrev pub refusal : ℕ → ℕ → ℕ
 refusal number place = number * 1000000 + place
+
+-- the number of each reason that has a name in code
+abbrev pub number_of : Named → ℕ
+number_of Named.LongText = 1
+number_of Named.ShortImage = 2
+number_of Named.NoToken = 3
+number_of Named.Misplaced = 4
+number_of Named.Alphabet = 5
+number_of Named.OutsideAlphabet = 6
+number_of Named.Number = 7
+number_of Named.Depth = 8
+number_of Named.Arms = 9
+number_of Named.States = 10
+number_of Named.Rows = 11
+number_of Named.Malformed = 21
+number_of Named.LongWord = 22
+number_of Named.OtherLetter = 23
+number_of Named.HighLimit = 24
+number_of Named.MarkBytes = 25

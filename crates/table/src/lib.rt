@@ -2,6 +2,7 @@
 #![tactic(auto)]
 
 pub mod form; // form.rt: the places of the fields, and the codes in a row
+pub mod reason; // reason.rt: why an entry refuses, and where
 pub mod source; // source.rt: where a search finds the rows that leave a state
 
 // A row as it stands in an image; `motion` is its move.
