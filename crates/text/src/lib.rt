@@ -2,7 +2,7 @@
 #![tactic(auto)]
 
 // The reserved words, and Other for a word that is not reserved.
-#[derive(Clone, Copy)]
+#[derive(Clone, Copy, Debug, PartialEq, Eq)]
 pub enum Word {
     Alphabet,
     DecrOnZero,
@@ -27,7 +27,7 @@ pub enum Word {
     Other,
 }
 
-#[derive(Clone, Copy)]
+#[derive(Clone, Copy, Debug, PartialEq, Eq)]
 pub enum Sign {
     Becomes,
     Equals,
@@ -51,7 +51,7 @@ pub enum Sign {
 }
 
 // What comes first in a text from a byte on. A token's bytes are text[at..end]. `Broken` is a byte at which no token starts.
-#[derive(Clone, Copy)]
+#[derive(Clone, Copy, Debug, PartialEq, Eq)]
 pub enum Token {
     Word { at: usize, end: usize, word: Word },
     Number { at: usize, end: usize },
