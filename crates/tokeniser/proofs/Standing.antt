@@ -4,6 +4,7 @@ use native.Mathlib.Omega.{arith}
 use native.Mathlib.Numerals.{add-one}
 use mathlib.Core.Path.{◌≡◌, refl, sym, ap, ap₂, ◌∙◌, subst, subst₂}
 use mathlib.Core.Bool.{Bool, true, false, cond, ◌&&◌}
+use Rattle.std.specs.Prelude.{Option, Some, None}
 use mathlib.Core.List.{List, [], ◌∷◌, Memᴰ}
 use lib.ListN.{length, take, drop, get_or, length-drop}
 use lib.Seq.{drop-cons, drop-drop, get_or-take, get_or-drop}
@@ -18,7 +19,6 @@ use Rattle.tokeniser.specs.Inside.Tokenising.{IsSign, kind_of, in_comment, Run, 
 use Rattle.text.specs.declared.Token.{Token}
 use Rattle.text.specs.declared.Word.{Word}
 use Rattle.text.specs.declared.Sign.{Sign}
-use Rattle.tokeniser.specs.declared.signs.Found.{Found}
 use Rattle.tokeniser.specs.declared.kinds.Kind.TheVariants as Kinds
 use Rattle.text.specs.Inside.Scan.{Sort, of_letter, of_sign, Kind, for_token, for_comment, kind, run, letter_reach, reach, made, skip, bad, lex_comment, lex_token, lex_as, lex}
 use Rattle.text.proofs.Runs.{run_on, run_off, run_out}
@@ -228,24 +228,24 @@ module _ (text : List ℕ) (p : ℕ) (inside : p < length text) where
     signs-kind : kind (get_or text p 0) ≡ for_token of_sign
     signs-kind = kind-sorted (get_or text p 0) k
 
-    module _ {b : ℕ} (second : b ≡ get_or text (p + 1) 0) {r : Found} (two : IsSign (get_or text p 0 ∷ b ∷ []) r) where
-      answered : {q : Found} → r ≡ q → IsSign (get_or text p 0 ∷ get_or text (p + 1) 0 ∷ []) q
-      answered e = subst₂ (λ (c : ℕ) (q : Found). IsSign (get_or text p 0 ∷ c ∷ []) q) second e two
+    module _ {b : ℕ} (second : b ≡ get_or text (p + 1) 0) {r : Option Sign} (two : IsSign (get_or text p 0 ∷ b ∷ []) r) where
+      answered : {q : Option Sign} → r ≡ q → IsSign (get_or text p 0 ∷ get_or text (p + 1) 0 ∷ []) q
+      answered e = subst₂ (λ (c : ℕ) (q : Option Sign). IsSign (get_or text p 0 ∷ c ∷ []) q) second e two
 
-      pub pair_first : (x : Sign) → r ≡ Found.Sign x → FirstToken text p (Token.Sign p (p + 2) x)
+      pub pair_first : (x : Sign) → r ≡ Some x → FirstToken text p (Token.Sign p (p + 2) x)
       pair_first x e = two_first signs-kind x (answered e)
 
-      pub single_first : (x : Sign) {q : Found}
-          → r ≡ Found.Nothing
+      pub single_first : (x : Sign) {q : Option Sign}
+          → r ≡ None
           → IsSign (get_or text p 0 ∷ []) q
-          → q ≡ Found.Sign x
+          → q ≡ Some x
           → FirstToken text p (Token.Sign p (p + 1) x)
       single_first x e one f = one_first signs-kind x (answered e) (subst (IsSign (get_or text p 0 ∷ [])) f one)
 
-      pub neither_first : {q : Found}
-          → r ≡ Found.Nothing
+      pub neither_first : {q : Option Sign}
+          → r ≡ None
           → IsSign (get_or text p 0 ∷ []) q
-          → q ≡ Found.Nothing
+          → q ≡ None
           → FirstToken text p (Token.Broken p)
       neither_first e one f = sign_bad signs-kind (answered e) (subst (IsSign (get_or text p 0 ∷ [])) f one)
 

@@ -1,11 +1,10 @@
-// The kind of a byte, by the range it falls in, and what follows from the kind: whether the byte is a digit, or goes on
-// with a word.
+// The kind of a byte, by the range it falls in, and with what a byte goes on: a number, a word, a comment.
 ghost use Rattle.std.specs.Prelude.{◌≡◌};
 ghost use Rattle.bits.specs.Byte.{is_digit};
 ghost use Rattle.text.specs.Token.{in_word};
-ghost use Rattle.tokeniser.specs.Inside.Tokenising.{kind_of};
+ghost use Rattle.tokeniser.specs.Inside.Tokenising.{kind_of, in_comment};
 
-#[derive(Clone, Copy)]
+#[derive(Clone, Copy, Debug, PartialEq, Eq)]
 pub enum Kind {
     Digit,
     Alphabetic,
@@ -36,17 +35,21 @@ pub fn kind_of(b: u8) -> Kind
 pub fn is_digit(b: u8) -> bool
     ensures { result ≡ is_digit b }
 {
-    match kind_of(b) {
-        Kind::Digit => true,
-        _ => false,
-    }
+    kind_of(b) == Kind::Digit
 }
 
 pub fn in_word(b: u8) -> bool
     ensures { result ≡ in_word b }
 {
-    match kind_of(b) {
-        Kind::Digit | Kind::Alphabetic | Kind::Underscore => true,
-        _ => false,
-    }
+    matches!(
+        kind_of(b),
+        Kind::Digit | Kind::Alphabetic | Kind::Underscore
+    )
+}
+
+// A comment ends before the line feed, which is white space, or with the text.
+pub fn in_comment(b: u8) -> bool
+    ensures { result ≡ in_comment b }
+{
+    b != b'\n'
 }

@@ -4,52 +4,46 @@ ghost use Rattle.tokeniser.specs.Inside.Tokenising.{IsSign};
 
 use text::Sign;
 
-#[derive(Clone, Copy)]
-pub enum Found {
-    Sign(Sign),
-    Nothing,
-}
-
-pub fn single(first: u8) -> Found
+pub fn single(first: u8) -> Option<Sign>
     ensures { IsSign (first ∷ []) result }
 {
     match first {
-        b'=' => Found::Sign(Sign::Becomes),
-        b'!' => Found::Sign(Sign::Not),
-        b'-' => Found::Sign(Sign::Minus),
-        b'(' => Found::Sign(Sign::OpenParen),
-        b')' => Found::Sign(Sign::CloseParen),
-        b'{' => Found::Sign(Sign::OpenBrace),
-        b'}' => Found::Sign(Sign::CloseBrace),
-        b'[' => Found::Sign(Sign::OpenBracket),
-        b']' => Found::Sign(Sign::CloseBracket),
-        b',' => Found::Sign(Sign::Comma),
-        b';' => Found::Sign(Sign::Semicolon),
-        _ => Found::Nothing,
+        b'=' => Some(Sign::Becomes),
+        b'!' => Some(Sign::Not),
+        b'-' => Some(Sign::Minus),
+        b'(' => Some(Sign::OpenParen),
+        b')' => Some(Sign::CloseParen),
+        b'{' => Some(Sign::OpenBrace),
+        b'}' => Some(Sign::CloseBrace),
+        b'[' => Some(Sign::OpenBracket),
+        b']' => Some(Sign::CloseBracket),
+        b',' => Some(Sign::Comma),
+        b';' => Some(Sign::Semicolon),
+        _ => None,
     }
 }
 
 // A pair ends with an equals sign, or is one byte twice.
-pub fn pair(first: u8, second: u8) -> Found
+pub fn pair(first: u8, second: u8) -> Option<Sign>
     ensures { IsSign (first ∷ second ∷ []) result }
 {
     if second == b'=' {
         return match first {
-            b'=' => Found::Sign(Sign::Equals),
-            b'!' => Found::Sign(Sign::Differs),
-            b'+' => Found::Sign(Sign::Add),
-            b'-' => Found::Sign(Sign::Subtract),
-            _ => Found::Nothing,
+            b'=' => Some(Sign::Equals),
+            b'!' => Some(Sign::Differs),
+            b'+' => Some(Sign::Add),
+            b'-' => Some(Sign::Subtract),
+            _ => None,
         };
     }
     if first != second {
-        return Found::Nothing;
+        return None;
     }
     match first {
-        b'&' => Found::Sign(Sign::And),
-        b'|' => Found::Sign(Sign::Or),
-        b'+' => Found::Sign(Sign::Increment),
-        b'-' => Found::Sign(Sign::Decrement),
-        _ => Found::Nothing,
+        b'&' => Some(Sign::And),
+        b'|' => Some(Sign::Or),
+        b'+' => Some(Sign::Increment),
+        b'-' => Some(Sign::Decrement),
+        _ => None,
     }
 }

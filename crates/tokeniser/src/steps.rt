@@ -7,9 +7,9 @@ ghost use Rattle.text.specs.First.{FirstToken};
 ghost use Rattle.tokeniser.specs.Inside.Tokenising.{kind_of, StepRight};
 ghost use Rattle.tokeniser.specs.declared.kinds.Kind.TheVariants as Kind;
 
-use super::ends::{comment_end, number_end, word_end};
-use super::kinds::{Kind, kind_of};
-use super::signs::{Found, pair, single};
+use super::ends::end_of;
+use super::kinds::{Kind, in_comment, in_word, is_digit, kind_of};
+use super::signs::{pair, single};
 use super::words::word_of;
 use text::Token;
 
@@ -41,7 +41,7 @@ fn number_at(text: &[u8], at: usize) -> Token
 {
     Token::Number {
         at,
-        end: number_end(text, at + 1),
+        end: end_of(text, at + 1, is_digit),
     }
 }
 
@@ -49,7 +49,7 @@ fn word_at(text: &[u8], at: usize) -> Token
     requires { (at < length text.now) × T (begins_word (get_or text.now at 0)) }
     ensures { FirstToken text.now at result }
 {
-    let end = word_end(text, at + 1);
+    let end = end_of(text, at + 1, in_word);
     Token::Word {
         at,
         end,
@@ -83,40 +83,33 @@ fn slash_at(text: &[u8], at: usize) -> Step
     requires { (at < length text.now) × (get_or text.now at 0 ≡ slash) }
     ensures { StepRight text.now at result }
 {
-    if byte_at(text, at + 1) != b'/' {
+    if bits::byte_at(text, at + 1) != b'/' {
         return Step::Token(Token::Broken { at });
     }
     Step::Blank {
-        next: comment_end(text, at + 2),
+        next: end_of(text, at + 2, in_comment),
     }
 }
 
-// The longer sign comes first.
+// The longer sign comes first. Past the text's end stands a 0, which no sign has and no comment begins with.
 fn sign_at(text: &[u8], at: usize) -> Token
     requires { (at < length text.now) × (kind_of (get_or text.now at 0) ≡ Kind.Sign) }
     ensures { FirstToken text.now at result }
 {
     let first = text[at];
-    match pair(first, byte_at(text, at + 1)) {
-        Found::Sign(sign) => Token::Sign {
+    match pair(first, bits::byte_at(text, at + 1)) {
+        Some(sign) => Token::Sign {
             at,
             end: at + 2,
             sign,
         },
-        Found::Nothing => match single(first) {
-            Found::Sign(sign) => Token::Sign {
+        None => match single(first) {
+            Some(sign) => Token::Sign {
                 at,
                 end: at + 1,
                 sign,
             },
-            Found::Nothing => Token::Broken { at },
+            None => Token::Broken { at },
         },
     }
-}
-
-// No sign and no comment has a byte 0.
-fn byte_at(text: &[u8], at: usize) -> u8
-    ensures { result ≡ get_or text.now at 0 }
-{
-    if at < text.len() { text[at] } else { 0 }
 }

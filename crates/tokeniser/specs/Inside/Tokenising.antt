@@ -1,14 +1,14 @@
 -- What the tokeniser's functions promise each other. No caller relies on any of it.
-use Rattle.std.specs.Prelude.{ℕ, ◌+◌, ◌-◌, ◌≤◌, ◌<◌, ◌≡◌, Bool, true, false, not, ◌||◌, length, get_or, drop, eqb}
+use Rattle.std.specs.Prelude.{ℕ, ◌+◌, ◌-◌, ◌≤◌, ◌<◌, ◌≡◌, Bool, true, false, not, ◌||◌, length, get_or, drop, eqb, Option, Some, None}
 use mathlib.Core.List.{List, [], ◌∷◌, Memᴰ}
 use Rattle.bits.specs.Byte.{is_digit, is_alphabetic}
 use Rattle.text.specs.Token.{quote, signs}
+use Rattle.text.specs.declared.Sign.{Sign}
 use Rattle.text.specs.Tokens.{is_white, slash, line_feed, Blank}
 use Rattle.text.specs.First.{written, FirstToken}
-use Rattle.tokeniser.specs.declared.signs.Found.{Found}
 use Rattle.tokeniser.specs.declared.steps.Step.{Step}
 use Rattle.tokeniser.specs.declared.kinds.Kind.{Kind}
-use Rattle.tokeniser.specs.declared.kinds.Kind.TheVariants.{Digit, Alphabetic, Underscore, Quote, White, Slash, Sign, Other}
+use Rattle.tokeniser.specs.declared.kinds.Kind.TheVariants as Kind
 
 -- some of these lists has this byte first
 abbrev pub begins : List (List ℕ) → ℕ → Bool
@@ -18,14 +18,14 @@ begins ((c ∷ l) ∷ ls) b = eqb b c || begins ls b
 
 -- the first of these tests that passes says the kind
 abbrev pub sorted : Bool → Bool → Bool → Bool → Bool → Bool → Bool → Kind
-sorted true a u q w s g = Digit
-sorted false true u q w s g = Alphabetic
-sorted false false true q w s g = Underscore
-sorted false false false true w s g = Quote
-sorted false false false false true s g = White
-sorted false false false false false true g = Slash
-sorted false false false false false false true = Sign
-sorted false false false false false false false = Other
+sorted true a u q w s g = Kind.Digit
+sorted false true u q w s g = Kind.Alphabetic
+sorted false false true q w s g = Kind.Underscore
+sorted false false false true w s g = Kind.Quote
+sorted false false false false true s g = Kind.White
+sorted false false false false false true g = Kind.Slash
+sorted false false false false false false true = Kind.Sign
+sorted false false false false false false false = Kind.Other
 
 -- the kind of a byte
 abbrev pub kind_of : ℕ → Kind
@@ -41,10 +41,14 @@ pub data Run (test : ℕ → Bool) (text : List ℕ) : ℕ → ℕ → Type 0 wh
   stop : {i : ℕ} → i < length text → test (get_or text i 0) ≡ false → Run test text i i
   on : {i n : ℕ} → i < length text → test (get_or text i 0) ≡ true → Run test text (i + 1) n → Run test text i n
 
+-- what a function answers is this test
+abbrev pub Answers : (ℕ → Bool → Type 0) → (ℕ → Bool) → Type 0
+Answers post test = (b : ℕ) (r : Bool) → post b r → r ≡ test b
+
 -- these bytes are this sign, or no sign
-abbrev pub IsSign : List ℕ → Found → Type 0
-IsSign l (Found.Sign x) = l ≡ written x
-IsSign l Found.Nothing = ¬ Memᴰ l signs
+abbrev pub IsSign : List ℕ → Option Sign → Type 0
+IsSign l (Some x) = l ≡ written x
+IsSign l None = ¬ Memᴰ l signs
 
 -- white space or a comment stands at this place, up to the next
 pub record Skips (text : List ℕ) (place next : ℕ) : Type 0 where
