@@ -11,25 +11,27 @@ use Rattle.cells.specs.declared.Symbol.TheVariants as Variants
 use Rattle.cells.specs.Code.{symbol_is}
 use Rattle.cells.specs.Cell.{Symbol, left_mark, letter, right_mark, last, symbol_on, moved}
 
-one_less : (n : ℕ) → suc n - 1 ≡ n
-one_less n = omega arith
-
 -- cell 0 holds the left mark
-pub on_left : (w : List ℕ) (cell : ℕ) → cell ≡ 0 → symbol_on w cell ≡ left_mark
+pub on_left : (w : List ℕ) (cell : ℕ) → ¬ (1 ≤ cell) → symbol_on w cell ≡ left_mark
 unfolding symbol_on
-on_left w cell first = rw first refl
+on_left w zero first = refl
+on_left w (suc i) first = absurd (first (omega arith))
 
--- cells 1 to n hold the letters
-pub on_letter_lem : (w : List ℕ) (cell : ℕ) → ¬ (cell ≡ 0) → cell - 1 < length w → symbol_on w cell ≡ letter (get_or w (cell - 1) 0)
+-- letter i is on the next cell
+pub on_letter_lem : (w : List ℕ) (cell i : ℕ) → 1 ≤ cell → i ≡ cell - 1 → i < length w → symbol_on w cell ≡ letter (get_or w i 0)
 unfolding symbol_on
-on_letter_lem w zero other low = absurd (other refl)
-on_letter_lem w (suc i) other low = rw (one_less i, lt-ltb i (length w) (omega arith)) refl
+on_letter_lem w zero i one e low = absurd (omega (arith, one))
+on_letter_lem w (suc k) i one e low =
+    let same : k ≡ i = omega arith in
+    rw (same, lt-ltb i (length w) low) refl
 
 -- every other cell is taken as the right mark's
-pub on_right : (w : List ℕ) (cell : ℕ) → ¬ (cell ≡ 0) → length w ≤ cell - 1 → symbol_on w cell ≡ right_mark
+pub on_right : (w : List ℕ) (cell i : ℕ) → 1 ≤ cell → i ≡ cell - 1 → length w ≤ i → symbol_on w cell ≡ right_mark
 unfolding symbol_on
-on_right w zero other high = absurd (other refl)
-on_right w (suc i) other high = rw (le-ltb i (length w) (omega arith)) refl
+on_right w zero i one e high = absurd (omega (arith, one))
+on_right w (suc k) i one e high =
+    let same : k ≡ i = omega arith in
+    rw (same, le-ltb i (length w) high) refl
 
 -- a move to the left mark
 pub moves_left : (w : List ℕ) (code cell : ℕ) → code ≡ to_left → moved w code cell ≡ 0

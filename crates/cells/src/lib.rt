@@ -3,13 +3,13 @@
 
 pub mod head; // head.rt: a head, as a struct that holds the word
 
-ghost use Rattle.std.specs.Prelude.{◌≡◌, min};
+ghost use Rattle.std.specs.Prelude.{◌≡◌};
 ghost use Rattle.cells.specs.Cell.{symbol_on, moved};
 ghost use Rattle.cells.specs.Code.{symbol_is};
 
 use table::form;
 
-#[derive(Clone, Copy)]
+#[derive(Clone, Copy, Debug, PartialEq, Eq)]
 pub enum Symbol {
     LeftMark,
     Letter(u8),
@@ -18,31 +18,16 @@ pub enum Symbol {
 
 const NO_MOVE: usize = form::NO_MOVE as usize;
 
-fn wide(code: u8) -> usize
-    ensures { result ≡ code }
-{
-    code as usize
-}
-
-fn at_most(n: usize, most: usize) -> usize
-    ensures { result ≡ min n most }
-{
-    if n < most { n } else { most }
-}
-
 // What stands on a cell; a cell past the right mark's is taken as that.
 pub fn looked(word: &[u8], cell: usize) -> Symbol
     ensures { symbol_is result ≡ symbol_on word.now cell }
 {
-    let left = cell == 0;
-    if left {
-        return Symbol::LeftMark;
-    }
-    let i = cell - 1;
-    if i < word.len() {
-        Symbol::Letter(word[i])
-    } else {
-        Symbol::RightMark
+    match cell.checked_sub(1) {
+        None => Symbol::LeftMark,
+        Some(i) => match word.get(i) {
+            Some(letter) => Symbol::Letter(*letter),
+            None => Symbol::RightMark,
+        },
     }
 }
 
@@ -51,16 +36,11 @@ pub fn moved(word: &[u8], code: u8, cell: usize) -> usize
     ensures { result ≡ moved word.now code cell }
 {
     let end = word.len() + 1;
-    if code == form::TO_LEFT {
-        return 0;
+    match code {
+        form::TO_LEFT => 0,
+        form::TO_RIGHT => end,
+        _ => (cell.min(end) + usize::from(code))
+            .saturating_sub(NO_MOVE)
+            .min(end),
     }
-    if code == form::TO_RIGHT {
-        return end;
-    }
-    let from = at_most(cell, end);
-    let sum = from + wide(code);
-    if sum <= NO_MOVE {
-        return 0;
-    }
-    at_most(sum - NO_MOVE, end)
 }

@@ -1,4 +1,4 @@
--- A reserved word is known by how it is written, and bytes that are none of the reserved words are another.
+-- A reserved word is known by how it is written, and bytes are one word only.
 use Prim.Native.Nat.{ℕ}
 use mathlib.Core.Path.{◌≡◌, refl, sym, ap, ◌∙◌}
 use mathlib.Core.Bool.{Bool, true, false, true≢false}
@@ -9,29 +9,36 @@ use Rattle.text.specs.First.{Name, reserved, unreserved, name, IsNamed, IsWord}
 use Rattle.text.specs.declared.Word.{Word}
 use Rattle.text.proofs.Runs.{true_T}
 
--- the reserved words as they are compared, the last first: those of a program's head, of plain statements, of statements that
--- hold blocks, and of conditions
-abbrev pub head_words : List Word
-head_words = Word.String ∷ Word.Twoc ∷ Word.False ∷ Word.True ∷ Word.DecrOnZero ∷ Word.Alphabet ∷ []
-
-abbrev pub plain_words : List Word
-plain_words = Word.Reject ∷ Word.Accept ∷ Word.C ∷ Word.Goto ∷ Word.Move ∷ head_words
-
-abbrev pub block_words : List Word
-block_words = Word.Also ∷ Word.Branch ∷ Word.Choose ∷ Word.While ∷ Word.Else ∷ Word.If ∷ plain_words
-
+-- the reserved words
 abbrev pub all_words : List Word
-all_words = Word.Rend ∷ Word.Lend ∷ Word.Read ∷ block_words
+all_words =
+    Word.Rend
+    ∷ Word.Lend
+    ∷ Word.Read
+    ∷ Word.Also
+    ∷ Word.Branch
+    ∷ Word.Choose
+    ∷ Word.While
+    ∷ Word.Else
+    ∷ Word.If
+    ∷ Word.Reject
+    ∷ Word.Accept
+    ∷ Word.C
+    ∷ Word.Goto
+    ∷ Word.Move
+    ∷ Word.String
+    ∷ Word.Twoc
+    ∷ Word.False
+    ∷ Word.True
+    ∷ Word.DecrOnZero
+    ∷ Word.Alphabet
+    ∷ []
 
 infixr 40 ◌nor◌
 -- these bytes are none of these words
-pub data NoneOf : List Word → List ℕ → Type 0 where
+data NoneOf : List Word → List ℕ → Type 0 where
   none : {l : List ℕ} → NoneOf [] l
   ◌nor◌ : {x : Word} {xs : List Word} {l : List ℕ} → ¬ (name x ≡ reserved l) → NoneOf xs l → NoneOf (x ∷ xs) l
-
--- bytes that differ from a word's are not that word
-pub differs : {l bytes : List ℕ} {r : Bool} → (l ≡ bytes → r ≡ true) → r ≡ false → ¬ (reserved bytes ≡ reserved l)
-differs {l} {bytes} h e n = let same : l ≡ bytes = cc in true≢false (sym (h same) ∙ e)
 
 is_named : Name → List ℕ → Bool
 is_named (reserved bytes) l = same_list bytes l
@@ -90,14 +97,6 @@ found_none : {xs : List Word} {l : List ℕ} → NoneOf xs l → found xs l ≡ 
 unfolding found
 found_none none = refl
 found_none (◌nor◌ {x} {xs} {l} h r) = found_step x xs l (is_named (name x) l) refl h (found_none r)
-
--- bytes that are none of the reserved words are another
-pub none_of_all : {l : List ℕ} → NoneOf all_words l → IsWord Word.Other l
-unfolding word_of
-none_of_all {l} h x e =
-    let other : x ≡ Word.Other = sym (word_of_name x) ∙ (ap word_of e ∙ found_none h) in
-    let no : unreserved ≡ reserved l = sym (ap name other) ∙ e in
-    true≢false (cc)
 
 none_each : (xs : List Word) (l : List ℕ) → ((x : Word) → ¬ (name x ≡ reserved l)) → NoneOf xs l
 none_each [] l h = none
