@@ -14,7 +14,7 @@ use cells::{Symbol, head};
 use table::{Row, form};
 
 // What a row's step comes to: a cell and a counter, or the row can't be taken, or it would pass the limit.
-#[derive(Clone, Copy)]
+#[derive(Clone, Copy, Debug, PartialEq, Eq)]
 pub enum Outcome {
     Goes { cell: usize, counter: usize },
     Blocked,
@@ -23,17 +23,11 @@ pub enum Outcome {
 
 const NO_CHANGE: usize = form::NO_CHANGE as usize;
 
-fn wide(code: u8) -> usize
-    ensures { result ≡ code }
-{
-    code as usize
-}
-
 // Whether a row's symbol is a letter of the alphabet, and this one.
 fn letter_fits(image: &[u8], code: u8, b: u8) -> bool
     ensures { result ≡ (ltb code (length (table_of image.now).alphabet) && eqb (get_or (table_of image.now).alphabet code 0) b) }
 {
-    let at = wide(code);
+    let at = usize::from(code);
     if fields::letter_count(image) <= at {
         return false;
     }
@@ -77,18 +71,14 @@ pub fn counter_fits(test: u8, counter: usize) -> bool
 fn changed(decr_on_zero: bool, code: u8, counter: usize, cell: usize, limit: usize) -> Outcome
     ensures { result ≡ outcome_of limit cell (changed decr_on_zero code counter) }
 {
-    let by = wide(code);
+    let by = usize::from(code);
     if NO_CHANGE <= by {
         return raised(by - NO_CHANGE, counter, cell, limit);
     }
-    let down = NO_CHANGE - by;
-    if down <= counter {
-        return raised(0, counter - down, cell, limit);
-    }
-    if decr_on_zero {
-        Outcome::Goes { cell, counter: 0 }
-    } else {
-        Outcome::Blocked
+    match counter.checked_sub(NO_CHANGE - by) {
+        Some(lowered) => raised(0, lowered, cell, limit),
+        None if decr_on_zero => Outcome::Goes { cell, counter: 0 },
+        None => Outcome::Blocked,
     }
 }
 

@@ -11,4 +11,4 @@ pub returns-then-image-at : goal.returns-then-image-at
 returns-then-image-at c = sym (letter_past _ _ _ (omega arith))
 
 pub returns : goal.returns
-returns c = letter_compared _ _ _ _ _ (omega arith) c.wide-at.ensures c.letter_at.ensures
+returns c = letter_compared _ _ _ _ _ (omega arith) c.from-at.ensures c.letter_at.ensures
