@@ -9,7 +9,7 @@ ghost use Rattle.bits.specs.Byte.{is_letter};
 pub fn byte_at(m: &[u8], i: usize) -> u8
     ensures { result ≡ get_or m.now i 0 }
 {
-    if i < m.len() { m[i] } else { 0 }
+    m.get(i).copied().unwrap_or(0)
 }
 
 // Bit i, or 0 past the end.
@@ -25,7 +25,7 @@ pub fn set_bit(m: &mut [u8], i: usize)
 {
     let at = i / 8;
     if at < m.len() {
-        m[at] = m[at] | (1u8 << (i % 8));
+        m[at] |= 1u8 << (i % 8);
     }
 }
 
@@ -33,11 +33,8 @@ pub fn set_bit(m: &mut [u8], i: usize)
 pub fn clear_bit(m: &mut [u8], i: usize)
     ensures { m.new ≡ without_bit m.old i }
 {
-    let at = i / 8;
-    if at < m.len() {
-        if bit_at(m, i) == 1 {
-            m[at] = m[at] - (1u8 << (i % 8));
-        }
+    if bit_at(m, i) == 1 {
+        m[i / 8] -= 1u8 << (i % 8);
     }
 }
 
@@ -45,21 +42,12 @@ pub fn clear_bit(m: &mut [u8], i: usize)
 pub fn clear(m: &mut [u8])
     ensures { m.new ≡ replicate (length m.old) 0 }
 {
-    let mut i = 0;
-    while i < m.len() {
-        m[i] = 0;
-        i += 1;
-    }
+    m.fill(0);
 }
 
 // Whether a byte may be a letter: 0-9 A-Z a-z.
 pub fn is_letter(b: u8) -> bool
     ensures { result ≡ is_letter b }
 {
-    match b {
-        b'0'..=b'9' => true,
-        b'A'..=b'Z' => true,
-        b'a'..=b'z' => true,
-        _ => false,
-    }
+    b.is_ascii_alphanumeric()
 }
