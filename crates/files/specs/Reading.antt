@@ -1,23 +1,12 @@
 -- What reading answers: so many bytes, at most as many as there was room for, or that a read failed.
-use Rattle.std.specs.Prelude.{ℕ, ◌≤◌, ◌<◌, ◌≡◌, min, Bool, true, false, List, length, take}
-use Rattle.files.specs.declared.Input.{Input}
-use Rattle.files.specs.declared.Input.TheVariants.{Bytes, Failed}
+use Rattle.std.specs.Prelude.{ℕ, ◌≤◌, ◌<◌, List, length, take, Option, Result, Ok, Err, IfOk}
+use Rattle.std.specs.Io.KnownBytes.{Consumes, IsAtEnd}
 
 -- what may be answered where there is room for so many bytes: without room nothing is read, so nothing fails
-abbrev pub Within : Input → ℕ → Type 0
-Within (Bytes n) room = n ≤ room
-Within (Failed error) room = 0 < room
+abbrev pub Within : {E : Type 0} → Result ℕ E → ℕ → Type 0
+Within (Ok n) room = n ≤ room
+Within (Err error) room = 0 < room
 
--- whether a read failed
-abbrev pub failed_of : Input → Bool
-failed_of (Bytes n) = false
-failed_of (Failed error) = true
-
--- how many of a buffer's bytes came, where the buffer has so many
-abbrev pub count_of : Input → ℕ → ℕ
-count_of (Bytes n) room = min n room
-count_of (Failed error) room = 0
-
--- a buffer has so many bytes, and so many are its first ones
-abbrev pub IsPrefixLen : ℕ → List ℕ → Type 0
-IsPrefixLen n bytes = (n ≤ length bytes) × (n ≡ length (take n bytes))
+-- where it is known what the input has left before and after, the bytes that came are the next of it, and all where there was room for more
+abbrev pub Comes : {E : Type 0} → Option (List ℕ) → Option (List ℕ) → List ℕ → Result ℕ E → Type 0
+Comes before after buffer r = IfOk r (λ n. Consumes before after (take n buffer) × (n < length buffer → IsAtEnd after))

@@ -5,74 +5,40 @@
 mod naming;
 mod telling;
 
-ghost use Rattle.std.specs.Prelude.{◌-◌, ◌<◌, min, ◌≡◌, length};
-ghost use Rattle.files.specs.Reading.{Within, IsPrefixLen, failed_of, count_of};
+ghost use Rattle.std.specs.Prelude.{◌<◌, ◌≤◌, ◌+◌, ◌≡◌, length, take, drop, IfOk};
+ghost use Rattle.std.specs.Io.KnownBytes.{Consumes, IsAtEnd};
+ghost use Rattle.files.specs.Reading.{Within, Comes};
 
 pub use naming::{open, text};
 use std::io;
 use std::io::Read;
 pub use telling::{fail, reason, say};
 
-// How many bytes came, at most as many as the buffer has; or that a read failed, and of what.
-#[derive(Clone, Copy)]
-pub enum Input {
-    Bytes(usize),
-    Failed(io::Error),
-}
-
 // Reads once into the buffer from `from` on.
-fn read_some<R: Read>(reader: &mut R, buf: &mut [u8], from: usize) -> Input
+fn read_some<R: Read>(reader: &mut R, buf: &mut [u8], from: usize) -> io::Result<usize>
     requires { from < length buf.old }
-    ensures { Within result (length buf.old - from) }
+    ensures size { length buf.new ≡ length buf.old }
+    ensures front { take from buf.new ≡ take from buf.old }
+    ensures fits { IfOk result (λ n. from + n ≤ length buf.new) }
+    ensures bytes { IfOk result (λ n. Consumes (R.remaining reader.old) (R.remaining reader.new) (take n (drop from buf.new))) }
+    ensures end { IfOk result (λ n. n ≡ 0 → IsAtEnd (R.remaining reader.new)) }
 {
-    match reader.read(&mut buf[from..]) {
-        Ok(n) => Input::Bytes(n),
-        Err(error) => Input::Failed(error),
-    }
+    reader.read(&mut buf[from..])
 }
 
-// Reads until the buffer is full or the input ends.
-pub fn read_all<R: Read>(reader: &mut R, buf: &mut [u8]) -> Input
-    ensures { Within result (length buf.old) }
+// Reads until the buffer is full or the input ends. The answer is how many bytes came, or of what a read failed.
+pub fn read_all<R: Read>(reader: &mut R, buf: &mut [u8]) -> io::Result<usize>
+    ensures within { Within result (length buf.old) }
+    ensures size { length buf.new ≡ length buf.old }
+    ensures comes { Comes (R.remaining reader.old) (R.remaining reader.new) buf.new result }
 {
     let mut n = 0;
     while n < buf.len() {
-        let some = read_some(reader, buf, n);
-        let Input::Bytes(k) = some else {
-            return some;
-        };
+        let k = read_some(reader, buf, n)?;
         if k == 0 {
-            return Input::Bytes(n);
+            return Ok(n);
         }
         n += k;
     }
-    Input::Bytes(n)
-}
-
-// Whether a read failed.
-pub fn failed(input: Input) -> bool
-    ensures { result ≡ failed_of input }
-{
-    match input {
-        Input::Bytes(_) => false,
-        Input::Failed(_) => true,
-    }
-}
-
-// How many of the buffer's bytes came. That they are a number of its bytes follows, and is said so that `&buf[..n]` needs no proof.
-pub fn count(input: Input, buf: &[u8]) -> usize
-    ensures value { result ≡ count_of input (length buf.now) }
-    ensures prefix_len { IsPrefixLen result buf.now }
-{
-    match input {
-        Input::Bytes(n) => at_most(n, buf),
-        Input::Failed(_) => 0,
-    }
-}
-
-fn at_most(n: usize, buf: &[u8]) -> usize
-    ensures value { result ≡ min n (length buf.now) }
-    ensures prefix_len { IsPrefixLen result buf.now }
-{
-    if n < buf.len() { n } else { buf.len() }
+    Ok(n)
 }

@@ -1,0 +1,2 @@
+-- What comes of reading on.
+pub mod Coming
