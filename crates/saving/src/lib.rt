@@ -4,32 +4,43 @@
 
 mod seen;
 
-ghost use Rattle.std.specs.Prelude.{◌+◌, ◌≤◌, ◌<◌, ◌≡◌, ◌++◌, true, length, take, drop, OnOk};
+ghost use Rattle.std.specs.Prelude.{◌+◌, ◌≤◌, ◌<◌, ◌≡◌, ◌++◌, true, length, take, drop, OnOk, is_ok};
 ghost use Rattle.std.specs.Io.KnownBytes.{Appends};
 ghost use Rattle.saving.specs.Names.{nameable};
 ghost use Rattle.saving.specs.Inside.Naming.{Named, Ended, Tried};
 ghost use Rattle.saving.specs.Inside.Seen.{replaceable};
 
-use crate::seen::{Seen, Stands, at, behind, kind, same};
+use crate::seen::{Seen, Stands, at, behind};
 use files::{fail, say, text};
 use std::fs::{Files, OpenFile, OpenOptions, Permissions};
 use std::io::{ErrorKind, Write};
 use std::os::unix::fs::PermissionsExt;
 use std::{fs, io};
 
-// Whether a file can be saved under a name of these bytes; says if not.
-fn named<W: Write>(errors: &mut W, path: &[u8]) -> bool
-    ensures { result ≡ nameable (length path.now) }
+// What keeps an image from being saved: in words, or an error of the system; and of which name.
+#[derive(Clone, Copy)]
+enum Unsaved<'a> {
+    Said { name: &'a [u8], what: &'a [u8] },
+    Failed { name: &'a [u8], error: io::Error },
+}
+
+// A file can be saved under a name of these bytes.
+fn named(path: &[u8]) -> Result<(), Unsaved<'_>>
+    ensures { is_ok result ≡ nameable (length path.now) }
 {
-    if path.len() == 0 {
-        let _ = say(errors, b"a file's name", b"it is empty");
-        return false;
+    if path.is_empty() {
+        return Err(Unsaved::Said {
+            name: b"a file's name",
+            what: b"it is empty",
+        });
     }
     if 4090 < path.len() {
-        let _ = say(errors, path, b"File name too long");
-        return false;
+        return Err(Unsaved::Said {
+            name: path,
+            what: b"File name too long",
+        });
     }
-    true
+    Ok(())
 }
 
 // These bytes in place of those from `at` on.
@@ -54,39 +65,19 @@ fn with_behind(path: &[u8], more: &[u8]) -> [u8; 4096]
     name
 }
 
-// Whether an image may be put where this stands, the rule having been read from a file; says if not.
-fn may_replace<W: Write>(errors: &mut W, path: &[u8], old: Stands, rule: bool) -> bool
-    ensures { result ≡ replaceable old rule }
+// An image may be put where this stands, the rule having been read from this file or not.
+fn may_replace(path: &[u8], old: Option<Stands>, rule: bool) -> Result<(), Unsaved<'_>>
+    ensures { is_ok result ≡ replaceable old rule }
 {
-    match old {
-        Stands::Nothing => true,
-        Stands::File => {
-            if rule {
-                let _ = say(
-                    errors,
-                    path,
-                    b"this is the rule that is read; give the image another name",
-                );
-            }
-            !rule
-        }
-        Stands::Folder => {
-            let _ = say(errors, path, b"Is a directory");
-            false
-        }
-        Stands::Link => {
-            let _ = say(
-                errors,
-                path,
-                b"this is a link; name the file that it leads to",
-            );
-            false
-        }
-        Stands::Other => {
-            let _ = say(errors, path, b"this is no file that an image could replace");
-            false
-        }
-    }
+    let what: &[u8] = match old {
+        None => return Ok(()),
+        Some(Stands::File) if !rule => return Ok(()),
+        Some(Stands::File) => b"this is the rule that is read; give the image another name",
+        Some(Stands::Folder) => b"Is a directory",
+        Some(Stands::Link) => b"this is a link; name the file that it leads to",
+        Some(Stands::Other) => b"this is no file that an image could replace",
+    };
+    Err(Unsaved::Said { name: path, what })
 }
 
 // Makes a file of this name, which no file may have.
@@ -103,41 +94,37 @@ fn create<R: Files>(rt: &R, name: &mut [u8]) -> io::Result<R::File>
     ensures { Tried name.old name.new }
 {
     let last = name.len() - 1;
-    let mut digit = b'0';
-    while digit < b'9' {
+    for digit in b'0'..b'9' {
         name[last] = digit;
         match create_once(rt, name) {
-            Ok(file) => return Ok(file),
-            Err(error) => {
-                if error.kind() != ErrorKind::AlreadyExists {
-                    return Err(error);
-                }
-            }
+            Err(error) if error.kind() == ErrorKind::AlreadyExists => {}
+            made => return made,
         }
-        digit += 1;
     }
-    name[last] = digit;
+    name[last] = b'9';
     create_once(rt, name)
 }
 
-fn not_created<R: AllocGlobal, W: Write>(rt: &R, errors: &mut W, path: &[u8], error: io::Error) {
+fn not_created(path: &[u8], error: io::Error) -> Unsaved<'_> {
     if error.kind() == ErrorKind::AlreadyExists {
-        let _ = say(
-            errors,
-            path,
-            b"the names with .new0 to .new9 behind it are all taken; remove what is not needed",
-        );
-        return;
+        return Unsaved::Said {
+            name: path,
+            what: b"the names with .new0 to .new9 behind it are all taken; remove what is not needed",
+        };
     }
-    let _ = fail(rt, errors, path, error);
+    Unsaved::Failed { name: path, error }
 }
 
 // Whether the new file has the old one's permissions, if there was one, and all of the bytes, on its device.
-fn written<F: Write + OpenFile>(file: &mut F, content: &[u8], old_mode: u32) -> io::Result<()>
+fn written<F: Write + OpenFile>(
+    file: &mut F,
+    content: &[u8],
+    old_mode: Option<u32>,
+) -> io::Result<()>
     ensures { OnOk result (Appends (F.contents file.old) (F.contents file.new) content.now) }
 {
-    if old_mode != 0 {
-        file.set_permissions(Permissions::from_mode(old_mode % 512))?;
+    if let Some(mode) = old_mode {
+        file.set_permissions(Permissions::from_mode(mode % 512))?;
     }
     file.write_all(content)?;
     file.sync_all()
@@ -147,7 +134,7 @@ fn written<F: Write + OpenFile>(file: &mut F, content: &[u8], old_mode: u32) -> 
 fn written_and_closed<F: Write + OpenFile + Drop>(
     mut file: F,
     content: &[u8],
-    old_mode: u32,
+    old_mode: Option<u32>,
 ) -> io::Result<()> {
     written(&mut file, content, old_mode)
 }
@@ -159,7 +146,7 @@ fn put_new<R: Files>(
     name: &[u8],
     path: &[u8],
     content: &[u8],
-    old_mode: u32,
+    old_mode: Option<u32>,
 ) -> io::Result<()> {
     written_and_closed(file, content, old_mode)?;
     fs::rename(rt, text(name)?, text(path)?)
@@ -169,84 +156,74 @@ fn remove<R: Files>(rt: &R, name: &[u8]) -> io::Result<()> {
     fs::remove_file(rt, text(name)?)
 }
 
-// Writes a new file of this name, up to its last byte, and gives it the path's name; or removes it and says what failed.
-fn put_by<R: Files + AllocGlobal, W: Write>(
+// Writes a new file of this name, up to its last byte, and gives it the path's name; or removes it.
+fn put_by<'a, R: Files>(
     rt: &R,
-    errors: &mut W,
     name: &mut [u8],
-    path: &[u8],
+    path: &'a [u8],
     content: &[u8],
-    old_mode: u32,
-) -> bool
+    old_mode: Option<u32>,
+) -> Result<(), Unsaved<'a>>
     requires { 0 < length name.old }
     ensures { Tried name.old name.new }
 {
     let file = match create(rt, name) {
         Ok(file) => file,
-        Err(error) => {
-            not_created(rt, errors, path, error);
-            return false;
-        }
+        Err(error) => return Err(not_created(path, error)),
     };
-    match put_new(rt, file, name, path, content, old_mode) {
-        Ok(()) => true,
-        Err(error) => {
-            let _ = fail(rt, errors, path, error);
-            let _ = remove(rt, name);
-            false
-        }
+    if let Err(error) = put_new(rt, file, name, path, content, old_mode) {
+        let _ = remove(rt, name);
+        return Err(Unsaved::Failed { name: path, error });
     }
+    Ok(())
 }
 
-fn put<R: Files + AllocGlobal, W: Write>(
+fn put<'a, R: Files>(
     rt: &R,
-    errors: &mut W,
-    path: &[u8],
+    path: &'a [u8],
     content: &[u8],
-    old_mode: u32,
-) -> bool
+    old_mode: Option<u32>,
+) -> Result<(), Unsaved<'a>>
     requires { nameable (length path.now) ≡ true }
 {
     let mut name = with_behind(path, b".new0");
     let n = path.len() + 5;
-    put_by(rt, errors, &mut name[..n], path, content, old_mode)
+    put_by(rt, &mut name[..n], path, content, old_mode)
 }
 
 // Whether what stands there is the file that was read. Where nothing stands, that need not be asked.
-fn is_source<R: Files>(rt: &R, old: Seen, source: &str) -> io::Result<bool> {
-    if old.mode == 0 {
-        return Ok(false);
+fn is_source<R: Files>(rt: &R, old: Option<Seen>, source: &str) -> io::Result<bool> {
+    match old {
+        Some(seen) => Ok(seen.same(behind(rt, source)?)),
+        None => Ok(false),
     }
-    Ok(same(old, behind(rt, source)?))
 }
 
-fn save_named<R: Files + AllocGlobal, W: Write>(
+// Saves a file whole under a name where nothing stands, or a file that is not the one to which `source` leads.
+fn save_to<'a, R: Files>(
     rt: &R,
-    errors: &mut W,
-    path: &[u8],
+    path: &'a [u8],
     content: &[u8],
-    source: &str,
-) -> bool
-    requires { nameable (length path.now) ≡ true }
+    source: &'a str,
+) -> Result<(), Unsaved<'a>>
+    ensures { OnOk result (nameable (length path.now) ≡ true) }
 {
-    let old = match at(rt, path) {
-        Ok(old) => old,
-        Err(error) => {
-            let _ = fail(rt, errors, path, error);
-            return false;
-        }
-    };
-    let rule = match is_source(rt, old, source) {
-        Ok(rule) => rule,
-        Err(error) => {
-            let _ = fail(rt, errors, source.as_bytes(), error);
-            return false;
-        }
-    };
-    if !may_replace(errors, path, kind(old.mode), rule) {
-        return false;
+    named(path)?;
+    let old = at(rt, path).map_err(|error| Unsaved::Failed { name: path, error })?;
+    let rule = is_source(rt, old, source).map_err(|error| Unsaved::Failed {
+        name: source.as_bytes(),
+        error,
+    })?;
+    may_replace(path, old.map(|seen| seen.kind()), rule)?;
+    put(rt, path, content, old.map(|seen| seen.mode))
+}
+
+// Says what kept an image from being saved.
+fn told<R: AllocGlobal, W: Write>(rt: &R, errors: &mut W, why: Unsaved<'_>) -> io::Result<()> {
+    match why {
+        Unsaved::Said { name, what } => say(errors, name, what),
+        Unsaved::Failed { name, error } => fail(rt, errors, name, error),
     }
-    put(rt, errors, path, content, old.mode)
 }
 
 // Saves a file whole under a name where nothing stands, or a file that is not the one to which `source` leads; says on standard error
@@ -260,8 +237,11 @@ pub fn save<R: Files + AllocGlobal, W: Write>(
 ) -> bool
     ensures { result ≡ true → nameable (length path.now) ≡ true }
 {
-    if named(errors, path) {
-        return save_named(rt, errors, path, content, source);
+    match save_to(rt, path, content, source) {
+        Ok(()) => true,
+        Err(why) => {
+            let _ = told(rt, errors, why);
+            false
+        }
     }
-    false
 }
