@@ -6,7 +6,13 @@ use mathlib.Core.Logic.{inl, inr}
 use mathlib.Core.List.{List, ◌++◌}
 use lib.ListN.{length, drop}
 use Rattle.table.specs.Image.{encode}
-use Rattle.table.specs.Refusal.{First}
+use mathlib.Core.Bool.{cond}
+use lib.Dec.{eqb}
+use Rattle.std.specs.Prelude.{Result, Ok, Err}
+use Rattle.table.specs.Refusal.{First, number_of}
+use Rattle.table.specs.declared.reason.Reason.{Reason}
+use Rattle.table.specs.declared.reason.Reason.TheVariants as Named
+use Rattle.table.specs.declared.reason.Refusal.{Refusal}
 use Rattle.table.proofs.Image.{length-encode}
 use Rattle.table.proofs.Refusal.{Single, Gives, Each, single_at_zero, first_once, first_has}
 use Rattle.rule.specs.Tree.{Program}
@@ -17,30 +23,74 @@ use Rattle.rule.proofs.Bounds.{fault_bounds}
 use Rattle.rule.proofs.Reasons.{single_text, no_text}
 use Rattle.construction.specs.Construction.{program_part, construct}
 use Rattle.construction.specs.Compile.{image_room, reasons, answer_number, Compiled, Refused, Compiles, CompilesTo}
-use Rattle.construction.specs.declared.Answer.{Answer}
+use Rattle.construction.specs.declared.Sizes.{Sizes}
 use Rattle.construction.proofs.SetBit.{length_accept}
 
+-- the reason with a number
+named : ℕ → Reason
+named n =
+    cond (eqb n 1) Named.LongText
+    (cond (eqb n 2) Named.ShortImage
+    (cond (eqb n 3) Named.NoToken
+    (cond (eqb n 4) Named.Misplaced
+    (cond (eqb n 5) Named.Alphabet
+    (cond (eqb n 6) Named.OutsideAlphabet
+    (cond (eqb n 7) Named.Number
+    (cond (eqb n 8) Named.Depth
+    (cond (eqb n 9) Named.Arms
+    (cond (eqb n 10) Named.States
+    (cond (eqb n 11) Named.Rows
+    (cond (eqb n 21) Named.Malformed
+    (cond (eqb n 22) Named.LongWord
+    (cond (eqb n 23) Named.OtherLetter
+    (cond (eqb n 24) Named.HighLimit
+    Named.MarkBytes))))))))))))))
+
+number_of_named : (r : Reason) → named (number_of r) ≡ r
+unfolding named
+number_of_named Named.LongText = refl
+number_of_named Named.ShortImage = refl
+number_of_named Named.NoToken = refl
+number_of_named Named.Misplaced = refl
+number_of_named Named.Alphabet = refl
+number_of_named Named.OutsideAlphabet = refl
+number_of_named Named.Number = refl
+number_of_named Named.Depth = refl
+number_of_named Named.Arms = refl
+number_of_named Named.States = refl
+number_of_named Named.Rows = refl
+number_of_named Named.Malformed = refl
+number_of_named Named.LongWord = refl
+number_of_named Named.OtherLetter = refl
+number_of_named Named.HighLimit = refl
+number_of_named Named.MarkBytes = refl
+
+-- reasons with the same number are equal
+pub number_of_once : {a b : Reason} → number_of a ≡ number_of b → a ≡ b
+number_of_once {a} {b} same = sym (number_of_named a) ∙ ap named same ∙ number_of_named b
+
 module _ {text before after after' : List ℕ} where
-  refused_once : {n m p q : ℕ}
-      → Refused text before after n p
-      → Refused text before after' m q
-      → (after ≡ after') × (Answer.Refused n p ≡ Answer.Refused m q)
+  refused_once : {r s : Refusal}
+      → Refused text before after (number_of r.reason) r.place
+      → Refused text before after' (number_of s.reason) s.place
+      → (after ≡ after') × (r ≡ s)
   refused_once a b =
       let single : Each Single (reasons text before) = (single_at_zero, (single_at_zero, single_text text _ _)) in
       let same = first_once (reasons text before) single a.first b.first in
-      (a.unchanged ∙ sym b.unchanged, λ i. Answer.Refused (same.0 i) (same.1 i))
+      let reason = number_of_once same.0 in
+      (a.unchanged ∙ sym b.unchanged, λ i. record { reason = reason i; place = same.1 i })
 
-  compiled_once : {k k' s s' r r' : ℕ}
-      → Compiled text before after k s r
-      → Compiled text before after' k' s' r'
-      → (after ≡ after') × (Answer.Compiled k s r ≡ Answer.Compiled k' s' r')
+  compiled_once : {s s' : Sizes}
+      → Compiled text before after s.bytes s.states s.rows
+      → Compiled text before after' s'.bytes s'.states s'.rows
+      → (after ≡ after') × (s ≡ s')
   compiled_once a b =
       let same = reads_once a.compilable.reads b.compilable.reads in
       let bytes = a.bytes_are ∙ ap (λ (p : Program). length (encode (construct p))) same ∙ sym b.bytes_are in
       let states = a.states_are ∙ ap (λ (p : Program). (construct p).states) same ∙ sym b.states_are in
       let rows = a.rows_are ∙ ap (λ (p : Program). length (construct p).rows) same ∙ sym b.rows_are in (
         a.image ∙ (λ i. encode (construct (same i)) ++ drop (bytes i) before) ∙ sym b.image,
-        λ i. Answer.Compiled (bytes i) (states i) (rows i),
+        λ i. record { bytes = bytes i; states = states i; rows = rows i },
       )
 
   -- what is compiled is not refused
@@ -54,14 +104,14 @@ module _ {text before after after' : List ℕ} where
       first_has (λ n p. ⊥) (reasons text before) none b.first
 
 -- two answers that both are right are equal, and so are the buffers that they leave
-pub compiles_once : {text before after after' : List ℕ} (x y : Answer)
+pub compiles_once : {text before after after' : List ℕ} (x y : Result Sizes Refusal)
     → Compiles text before after x
     → Compiles text before after' y
     → (after ≡ after') × (x ≡ y)
-compiles_once (Answer.Compiled k s r) (Answer.Compiled k' s' r') a b = compiled_once a.right b.right
-compiles_once (Answer.Compiled k s r) (Answer.Refused n p) a b = absurd (never_both a.right b.right)
-compiles_once (Answer.Refused n p) (Answer.Compiled k s r) a b = absurd (never_both b.right a.right)
-compiles_once (Answer.Refused n p) (Answer.Refused m q) a b = refused_once a.right b.right
+compiles_once (Ok s) (Ok s') a b = let same = compiled_once a.right b.right in (same.0, ap (λ (t : Sizes). Ok t) same.1)
+compiles_once (Ok s) (Err r) a b = absurd (never_both a.right b.right)
+compiles_once (Err r) (Ok s) a b = absurd (never_both b.right a.right)
+compiles_once (Err r) (Err q) a b = let same = refused_once a.right b.right in (same.0, ap (λ (t : Refusal). Err t) same.1)
 
 -- and so it is of the answer as one number
 pub compiles_to_once : {text before after after' : List ℕ} {r r' : ℕ}
@@ -111,10 +161,10 @@ pub refused_bounds : {text before after : List ℕ} {n p : ℕ} → Refused text
 refused_bounds {text} {before} {n = n} {p = p} a = first_bounds text before n p a.first
 
 -- so compiling never gives 0
-answer_never_zero : {text before after : List ℕ} (x : Answer) → Compiles text before after x → 1 ≤ answer_number x
+answer_never_zero : {text before after : List ℕ} (x : Result Sizes Refusal) → Compiles text before after x → 1 ≤ answer_number x
 unfolding answer_number
-answer_never_zero (Answer.Compiled k s r) a = omega (arith, compiled_bytes a.right)
-answer_never_zero (Answer.Refused n p) a = omega (arith, refused_bounds a.right)
+answer_never_zero (Ok s) a = omega (arith, compiled_bytes a.right)
+answer_never_zero (Err r) a = omega (arith, refused_bounds a.right)
 
 pub compiles_to_never_zero : {text before after : List ℕ} {r : ℕ} → CompilesTo text before after r → 1 ≤ r
 compiles_to_never_zero a = rw a.number (answer_never_zero a.answer a.compiles)

@@ -1,12 +1,13 @@
 -- What compiling promises, for every text and every image buffer.
-use Rattle.std.specs.Prelude.{ℕ, ◌≤◌, ◌<◌, ◌≡◌, List, [], ◌∷◌, ◌++◌, length, drop}
+use Rattle.std.specs.Prelude.{ℕ, ◌≤◌, ◌<◌, ◌≡◌, List, [], ◌∷◌, ◌++◌, length, drop, Result, Ok, Err}
 use Rattle.table.specs.Image.{encode}
-use Rattle.table.specs.Refusal.{Reason, because, at_zero, First, refusal}
+use Rattle.table.specs.Refusal.{Reason, because, at_zero, First, refusal, number_of}
+use Rattle.table.specs.declared.reason.Refusal.{Refusal}
 use Rattle.rule.specs.Tree.{Program}
 use Rattle.rule.specs.Faults.{FirstFault, Reads, TooMany}
 use Rattle.construction.specs.Construction.{construct}
 use Rattle.construction.specs.Agreement.{Agree}
-use Rattle.construction.specs.declared.Answer.{Answer}
+use Rattle.construction.specs.declared.Sizes.{Sizes}
 
 -- the bytes of image buffer that document 01 asks for, enough for the longest image
 abbrev pub image_room : ℕ
@@ -30,9 +31,9 @@ pub record Compilable (text : List ℕ) (p : Program) : Type 0 where
   pub rows : length (construct p).rows ≤ 1024
 
 -- the answer as one number, for C
-unfoldable pub answer_number : Answer → ℕ
-answer_number (Answer.Compiled bytes states rows) = bytes
-answer_number (Answer.Refused number place) = refusal number place
+unfoldable pub answer_number : Result Sizes Refusal → ℕ
+answer_number (Ok sizes) = sizes.bytes
+answer_number (Err r) = refusal (number_of r.reason) r.place
 
 pub record Compiled (text before after : List ℕ) (bytes states rows : ℕ) : Type 0 where
   pub program : Program
@@ -48,16 +49,16 @@ pub record Refused (text before after : List ℕ) (number place : ℕ) : Type 0 
   pub first : First (reasons text before) number place
   pub unchanged : after ≡ before
 
--- what each case says: the image's length, the states and the rows; or a number and its place
-abbrev pub AnswerRight : List ℕ → List ℕ → List ℕ → Answer → Type 0
-AnswerRight text before after (Answer.Compiled bytes states rows) = Compiled text before after bytes states rows
-AnswerRight text before after (Answer.Refused number place) = Refused text before after number place
+-- what each case says: the image's length, the states and the rows; or a reason's number and its place
+abbrev pub AnswerRight : List ℕ → List ℕ → List ℕ → Result Sizes Refusal → Type 0
+AnswerRight text before after (Ok sizes) = Compiled text before after sizes.bytes sizes.states sizes.rows
+AnswerRight text before after (Err r) = Refused text before after (number_of r.reason) r.place
 
-pub record Compiles (text before after : List ℕ) (answer : Answer) : Type 0 where
+pub record Compiles (text before after : List ℕ) (answer : Result Sizes Refusal) : Type 0 where
   pub right : AnswerRight text before after answer
 
 -- the same of the answer as one number
 pub record CompilesTo (text before after : List ℕ) (result : ℕ) : Type 0 where
-  pub answer : Answer
+  pub answer : Result Sizes Refusal
   pub compiles : Compiles text before after answer
   pub number : result ≡ answer_number answer
