@@ -3,16 +3,18 @@
 #![tactic(auto)]
 
 ghost use Rattle.std.specs.Prelude.{◌≡◌, ◌+◌, ◌*◌};
-ghost use Rattle.bits.specs.Bit.{bit};
+ghost use Rattle.bits.specs.Tells.{Tells};
+ghost use Rattle.table.specs.Table.{Accepting};
 ghost use Rattle.table.specs.Form.{rows_place, bytes_of};
 ghost use Rattle.table.specs.Fields.{two_at, table_of, width_of, row_count, letters_of, letter_of};
 
 use table::form;
 
-fn two(high: u8, low: u8) -> usize
+// The number of two bytes.
+pub fn two(high: u8, low: u8) -> usize
     ensures { result ≡ high * 256 + low }
 {
-    (high as usize) * 256 + low as usize
+    u16::from_be_bytes([high, low]) as usize
 }
 
 // The two-byte number that starts here, high byte first.
@@ -65,20 +67,13 @@ pub fn state_count(image: &[u8]) -> usize
     two_at(image, letters(image) as usize + form::STATES_PLACE)
 }
 
-// 1 if state s accepts, else 0.
-pub fn accepts(image: &[u8], s: usize) -> u8
-    ensures { result ≡ bit (table_of image.now).accepting s }
+// Whether state s accepts.
+pub fn accepts(image: &[u8], s: usize) -> bool
+    ensures { Tells result (Accepting (table_of image.now) s) }
 {
+    let at = letters(image) as usize + form::ACCEPTING_PLACE;
     let inside = s < 128;
-    if inside {
-        (bits::byte_at(
-            image,
-            letters(image) as usize + form::ACCEPTING_PLACE + s / 8,
-        ) >> (s % 8))
-            % 2
-    } else {
-        0
-    }
+    inside && (bits::byte_at(image, at + s / 8) >> (s % 8)) % 2 == 1
 }
 
 // Where the first row stands.

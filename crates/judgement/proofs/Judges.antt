@@ -73,7 +73,7 @@ module _ {image word : List ℕ} {limit : ℕ} {before after after' : List ℕ} 
   never_both a b = first-none _ _ (reasons image word limit before) (no_reason image word limit before a.judgeable) b.first
 
 -- two right answers are equal, and the marks after them too
-answer_once
+pub answer_once
     : (image word : List ℕ) (limit : ℕ) (before : List ℕ) {after after' : List ℕ} (a b : Answer)
     → AnswerRight image word limit before after a → AnswerRight image word limit before after' b
     → (a ≡ b) × (after ≡ after')

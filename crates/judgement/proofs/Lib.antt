@@ -4,5 +4,6 @@ pub mod Verdict
 pub mod Marks
 pub mod Reasons
 pub mod Judges
+pub mod Answered
 pub mod Says
 pub mod Counted

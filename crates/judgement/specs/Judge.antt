@@ -1,8 +1,10 @@
 -- What judging promises, for every image, word, limit and mark buffer.
-use Rattle.std.specs.Prelude.{ℕ, ◌+◌, ◌*◌, ◌≡◌, ◌≢◌, List, [], ◌∷◌, ◌++◌, length}
+use Rattle.std.specs.Prelude.{ℕ, ◌+◌, ◌*◌, ◌≡◌, ◌≢◌, List, [], ◌∷◌, ◌++◌, length, Result, Ok, Err}
 use Rattle.bits.specs.Size.{Size}
 use Rattle.table.specs.Table.{Table}
-use Rattle.table.specs.Refusal.{Reason, at_zero, First, refusal}
+use Rattle.table.specs.Refusal.{Reason, at_zero, First, refusal, number_of}
+use Rattle.table.specs.declared.reason.Refusal.{Refusal}
+use Rattle.judgement.specs.declared.answer.Judged.{Judged as Given}
 use Rattle.machine.specs.Run.{Reach}
 use Rattle.judgement.specs.Verdict.{Verdict, verdict_number, IsVerdict}
 use Rattle.judgement.specs.Marks.{mark_bytes, Marks}
@@ -50,3 +52,12 @@ pub record Judges (image word : List ℕ) (limit : ℕ) (before after : List ℕ
   pub answer : Answer
   pub right : AnswerRight image word limit before after answer
   pub number : result ≡ answer_number answer
+
+-- the answer that a judge gives: a verdict and its count, or a refusal
+abbrev pub answer_of : Result Given Refusal → Answer
+answer_of (Ok answer) = judged answer.verdict answer.count
+answer_of (Err refusal) = refused (number_of refusal.reason) refusal.place
+
+-- it is right, with these marks before and after
+pub record Answers (image word : List ℕ) (limit : ℕ) (before after : List ℕ) (result : Result Given Refusal) : Type 0 where
+  pub right : AnswerRight image word limit before after (answer_of result)

@@ -1,2 +1,4 @@
-// What judging is, in definitions and their laws: the three verdicts, the count, the marks, the refusals, and what the judge promises.
+// What judging is: in `answer.rt` what a judge answers with, in `specs/` the marks, the refusals and what a judge promises.
 #![tactic(auto)]
+
+pub mod answer; // answer.rt: the verdicts, and a verdict with its count

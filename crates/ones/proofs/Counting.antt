@@ -1,25 +1,95 @@
--- A count of ones is the size of the set of bits that are 1.
+-- Bytes that are all 0, and how many bits are set: the ones of the bytes add up to the size of the set of bits that are 1.
 use Prim.Native.Nat.{ℕ, zero, suc, ◌+◌, ◌-◌, ◌*◌, ◌/◌, ◌%◌, ◌^◌, ◌≤◌, ◌<◌, min}
-use native.Mathlib.Nat.{eq-or-lt_of_le, le_of_suc-le-suc, pow-suc, add-zero}
+use native.Mathlib.Nat.{eq-or-lt_of_le, le_of_suc-le-suc, pow-suc, le_refl, min_comm}
+use native.Mathlib.Decide.{dec_lt}
 use native.Mathlib.Omega.{arith}
 use mathlib.Core.Path.{◌≡◌, refl, sym, ap, ap₂, subst, ◌∙◌}
 use mathlib.Core.Logic.{◌⊎◌, inl, inr, ⊎_elim, ∥∥₁_elim}
 use mathlib.Core.HLevel.{⊥_prop}
 use mathlib.Core.List.Pairwise
 use mathlib.Core.List.{List, [], ◌∷◌, Memᴰ, Nodup}
-use lib.ListN.{length, get_or, take, length-take}
+use lib.ListN.{length, get_or, get_or-eq_default, take, drop}
 use lib.Arith.{lt-one}
+use lib.Bits.{bit_or, or_add_and, and_le_l, and_le_r}
 use lib.Count.{ones, ones_step}
-use Rattle.bits.specs.Bit.{bit}
+use lib.Dec.{eqb}
+use borrow.Author.Tests.{eqb-true, eqb-false}
+use Rattle.std.specs.Prelude.{Bool, fold, sum_by}
+use Rattle.std.proofs.lemmas.List.{get_or-take, get_or-drop, length-take, take_all, take_min}
+use Rattle.std.proofs.lemmas.List.Sums.{sum_by-cons, sum_by_more}
+use Rattle.bits.specs.Bit.{bit, Bytes}
 use Rattle.bits.specs.Size.{Size}
-use Rattle.ones.specs.Ones.{Ones}
-use Rattle.ones.specs.Inside.Between.{OnesBetween}
+use Rattle.bits.specs.Tells.{Tells}
 use Rattle.bits.specs.Inside.Sum.{sum_below}
 use Rattle.bits.proofs.Sum.{sum_at_most, sum_more, sum_first, sum_same}
-use Rattle.ones.specs.Blank.{Blank}
 use Rattle.bits.proofs.Bits.{bit-zero_or_one, bit_of_byte, half_bits}
 use Rattle.bits.proofs.Size.{size_once}
-use Rattle.bits.proofs.Change.{bit_inside, bit-take}
+use Rattle.bits.proofs.Change.{bit_inside}
+use Rattle.ones.specs.Blank.{Blank}
+use Rattle.ones.specs.Ones.{Ones}
+
+-- bytes that are all 0
+abbrev pub Zeros : List ℕ → Type 0
+Zeros m = (k : ℕ) → get_or m k 0 ≡ 0
+
+-- two numbers that are 0 together
+or-zero : (a b : ℕ) → bit_or a b ≡ 0 → (a ≡ 0) × (b ≡ 0)
+or-zero a b none = omega (arith, or_add_and a b, and_le_l a b, and_le_r a b)
+
+zeros_more : {b : ℕ} (m : List ℕ) → b ≡ 0 → Zeros m → Zeros (b ∷ m)
+zeros_more m first rest zero = first
+zeros_more m first rest (suc k) = rest k
+
+-- what is gathered of bytes is 0 exactly if they all are
+gathered-zero : (a : ℕ) (m : List ℕ) → fold bit_or a m ≡ 0 → (a ≡ 0) × Zeros m
+gathered-zero a [] none = (none, λ k. refl)
+gathered-zero a (b ∷ m) none =
+    let rest = gathered-zero (bit_or a b) m none in
+    let both = or-zero a b rest.0 in
+    (both.0, zeros_more m both.1 rest.1)
+
+zeros_gathered : (m : List ℕ) → Zeros m → fold bit_or 0 m ≡ 0
+zeros_gathered [] zeros = refl
+zeros_gathered (b ∷ m) zeros = let first : b ≡ 0 = zeros 0 in rw first (zeros_gathered m (λ k. zeros (suc k)))
+
+pub zeros_told : (m : List ℕ) (gathered : ℕ) → gathered ≡ fold bit_or 0 m → Tells (eqb gathered 0) (Zeros m)
+zeros_told m gathered is = record {
+  holds = λ e. (gathered-zero 0 m (sym is ∙ eqb-true gathered 0 e)).1;
+  fails = λ e zeros. eqb-false gathered 0 e (is ∙ zeros_gathered m zeros);
+}
+
+part_at : (m : List ℕ) (from end k : ℕ) → from ≤ k → k < end → get_or m k 0 ≡ get_or (take (end - from) (drop from m)) (k - from) 0
+part_at m from end k low inside =
+    let at : from + (k - from) ≡ k = omega arith in
+    let within : k - from < end - from = omega arith in
+    rw (get_or-take (end - from) (drop from m) (k - from) 0 within, get_or-drop, at) refl
+
+-- the bytes of a part are all 0 exactly if the bytes from its start up to its end are; behind the end of all there is nothing else
+pub blank_told
+    : {told : Bool} (m : List ℕ) (from to end : ℕ) → end ≡ min to (length m) → from < end → Tells told (Zeros (take (end - from) (drop from m)))
+    → Tells told (Blank m from to)
+blank_told m from to end is some tells = record {
+  holds = λ e. record {
+    zero = λ k low high. elim (dec_lt k end) [
+      | yes inside ↦ part_at m from end k low inside ∙ tells.holds e (k - from)
+      | no past ↦ get_or-eq_default m 0 (omega arith)
+    ];
+  };
+  fails = λ e blank. tells.fails e (λ k. elim (dec_lt k (end - from)) [
+    | yes inside ↦
+        let at : from + k - from ≡ k = omega arith in
+        rw at at (sym (part_at m from end (from + k) (omega arith) (omega arith))) ∙ blank.zero (from + k) (omega arith) (omega arith)
+    | no past ↦ get_or-eq_default (take (end - from) (drop from m)) 0 (omega (arith, length-take (end - from) (drop from m)))
+  ]);
+}
+
+-- no bit is set in bytes that are 0
+pub zeros_ones : (m : List ℕ) → Zeros m → 0 ≡ sum_by ones m
+unfolding ones
+zeros_ones [] zeros = refl
+zeros_ones (b ∷ m) zeros =
+    let none : ones b ≡ 0 = rw (zeros 0) refl in
+    omega (arith, sum_by-cons ones b m, zeros_ones m (λ k. zeros (suc k)))
 
 -- a number before others, if its digit is 1
 pick : ℕ → ℕ → List ℕ → List ℕ
@@ -123,71 +193,50 @@ sum_of_digits (suc k) a low =
     (sum_same (λ (j : ℕ). a / 2 ^ suc j % 2) (λ (j : ℕ). a / 2 / 2 ^ j % 2) k (λ j l. ap (λ (x : ℕ). x % 2) (sym (half_bits a j))) ∙ sum_of_digits k (a / 2) (omega (arith, pow-suc 2 k)))
     ∙ sym (ones_step a)
 
--- no byte
-pub ones_none : (m : List ℕ) (at : ℕ) → OnesBetween m at at 0
-ones_none m at = record { sum = omega arith }
-
--- the next byte's ones are added
-pub ones_more
-    : {m : List ℕ} {from i n : ℕ} → get_or m i 0 < 256 → OnesBetween m from i n → OnesBetween m from (i + 1) (n + ones (get_or m i 0))
-ones_more {m} {from} {i} byte so =
-    let terms = sum_same (λ (j : ℕ). bit m (i * 8 + j)) (λ (j : ℕ). get_or m i 0 / 2 ^ j % 2) 8 (bit_of_byte m i) in
-    let next : (i + 1) * 8 ≡ i * 8 + 8 = omega arith in
-    record { sum = rw next (omega (arith, sum_more (bit m) (i * 8) 8, terms, sum_of_digits 8 (get_or m i 0) byte, so.sum)) }
-
--- no bit is set in bytes that are 0
-ones_zero : {m : List ℕ} {from i : ℕ} → get_or m i 0 ≡ 0 → OnesBetween m from i 0 → OnesBetween m from (i + 1) 0
-unfolding ones
-ones_zero {m} {from} {i} nothing so =
-    let none : 0 + ones (get_or m i 0) ≡ 0 = rw nothing refl in
-    subst (OnesBetween m from (i + 1)) none (ones_more (omega arith) so)
-
-blank_ones : {m : List ℕ} {from : ℕ} (k : ℕ) → Blank m from (from + k) → OnesBetween m from (from + k) 0
-blank_ones {m} {from} zero blank = rw add-zero (ones_none m from)
-blank_ones {m} {from} (suc k) blank =
-    rw (next) (ones_zero (blank.zero (from + k) (omega arith) (omega arith)) (blank_ones k (record { zero = λ i low high. blank.zero i low (omega arith) })))
-  where
-    next : from + suc k ≡ from + k + 1
-    next = omega arith
-
--- up to the same place
-pub ones_to : {m : List ℕ} {from i to n : ℕ} → i ≡ to → OnesBetween m from i n → OnesBetween m from to n
-ones_to {m} {from} {n = n} end so = subst (λ (x : ℕ). OnesBetween m from x n) end so
-
-pub ones_blank : {m : List ℕ} {from to : ℕ} → from ≤ to → Blank m from to → OnesBetween m from to 0
-ones_blank {m} {from} {to} ahead blank =
-    let end : from + (to - from) ≡ to = omega arith in
-    ones_to end (blank_ones (to - from) (rw end blank))
-
--- the next bytes' ones are added
-pub ones_both : {m : List ℕ} {from mid to n k : ℕ} → OnesBetween m from mid n → OnesBetween m mid to k → OnesBetween m from to (n + k)
-ones_both a b = record { sum = omega (arith, a.sum, b.sum) }
-
--- they are at most eight for each byte
-pub ones_at_most : {m : List ℕ} {from to n : ℕ} → from ≤ to → OnesBetween m from to n → n + from * 8 ≤ to * 8
-ones_at_most {m} {from} {to} ahead so =
-    let parts : from * 8 + (to - from) * 8 ≡ to * 8 = omega arith in
-    omega (
-      arith,
-      so.sum,
-      rw parts at (sum_more (bit m) (from * 8) ((to - from) * 8)),
-      sum_at_most (λ (j : ℕ). bit m (from * 8 + j)) (λ j. omega (arith, bit-zero_or_one m (from * 8 + j))) ((to - from) * 8),
-    )
-
--- after the first bytes the sum is the number of their bits that are set
-pub ones_all : {m : List ℕ} {to n : ℕ} (many : ℕ) → to ≡ min many (length m) → OnesBetween m 0 to n → Ones (take many m) n
+-- the ones of the first bytes are those of their bits
+ones_before : (m : List ℕ) → Bytes m → (k : ℕ) → k ≤ length m → sum_by ones (take k m) ≡ sum_below (bit m) (k * 8)
 unfolding sum_below
-ones_all {m} {to} {n} many end so =
-    record {
-      size =
-          subst
-          (λ (x : ℕ). Size (λ (j : ℕ). bit (take many m) j ≡ 1) x)
-          sum
-          (size_of_sum (bit (take many m)) (bit-zero_or_one (take many m)) (to * 8) (λ j one. omega (arith, bit_inside (take many m) j one, length-take many m)));
-    }
-  where
-    sum : sum_below (bit (take many m)) (to * 8) ≡ n
-    sum = omega (arith, so.sum, sum_same (bit m) (bit (take many m)) (to * 8) (λ j low. sym (bit-take m many j (omega arith))))
+ones_before m bytes zero low = refl
+ones_before m bytes (suc k) low =
+    let terms = sum_same (λ (j : ℕ). bit m (k * 8 + j)) (λ (j : ℕ). get_or m k 0 / 2 ^ j % 2) 8 (bit_of_byte m k) in
+    let next : suc k * 8 ≡ k * 8 + 8 = omega arith in
+    let one : suc k ≡ k + 1 = omega arith in
+    rw (next) (rw one (omega (
+      arith,
+      sum_by_more ones m k 0 low,
+      ones_before m bytes k (omega arith),
+      sum_more (bit m) (k * 8) 8,
+      terms,
+      sum_of_digits 8 (get_or m k 0) (bytes k),
+    )))
+
+pub ones_bits : (m : List ℕ) → Bytes m → sum_by ones m ≡ sum_below (bit m) (length m * 8)
+ones_bits m bytes = subst (λ (l : List ℕ). sum_by ones l ≡ sum_below (bit m) (length m * 8)) (take_all (length m) m (le_refl (length m))) (ones_before m bytes (length m) (le_refl (length m)))
+
+-- no byte has none
+pub ones_none : (m : List ℕ) → length m ≡ 0 → sum_by ones m ≡ 0
+ones_none [] none = refl
+ones_none (b ∷ m) none = absurd (omega arith)
+
+-- there are at most eight for each byte
+pub ones_at_most : (m : List ℕ) → Bytes m → sum_by ones m ≤ length m * 8
+ones_at_most m bytes =
+    omega (arith, ones_bits m bytes, sum_at_most (bit m) (λ j. omega (arith, bit-zero_or_one m j)) (length m * 8))
+
+-- and as many as bits that are set
+pub ones_all : {n : ℕ} (m : List ℕ) → Bytes m → n ≡ sum_by ones m → Ones m n
+ones_all m bytes is =
+    rw (is, ones_bits m bytes) (record { size = size_of_sum (bit m) (bit-zero_or_one m) (length m * 8) (λ j one. omega (arith, bit_inside m j one)) })
+
+-- the first bytes are bytes, up to the end of all where that comes first
+pub first_end : {end : ℕ} (n : ℕ) (m : List ℕ) → end ≡ min (length m) n → take end m ≡ take n m
+first_end n m is = rw (is, min_comm (length m) n, take_min n m) refl
+
+pub first_bytes : (m : List ℕ) → Bytes m → (n : ℕ) → Bytes (take n m)
+first_bytes m bytes n i = elim (dec_lt i n) [
+  | yes inside ↦ rw (get_or-take n m i 0 inside) (bytes i)
+  | no past ↦ let none : get_or (take n m) i 0 ≡ 0 = get_or-eq_default (take n m) 0 (omega (arith, length-take n m)) in omega arith
+]
 
 -- so a promise of a count of ones leaves no second number
 pub ones_once : {m : List ℕ} {n k : ℕ} → Ones m n → Ones m k → n ≡ k

@@ -1,3 +1,2 @@
--- Laws of the count of ones, byte by byte, and of bytes that are all 0.
-pub mod Blanks
+-- Laws of bytes that are all 0 and of the count of ones.
 pub mod Counting

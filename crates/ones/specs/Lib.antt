@@ -1,4 +1,3 @@
 -- How many bits are set, and bytes of which none is.
 pub mod Ones
 pub mod Blank
-pub mod Inside

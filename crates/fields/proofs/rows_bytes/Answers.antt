@@ -4,7 +4,7 @@ use Rattle.table.proofs.Reading.{bytes_is, count_low}
 use Rattle.fields.proofs.rows_bytes.Goals as goal
 
 pub overflow_mul-result : goal.overflow_mul-result
-overflow_mul-result c = omega (arith, c.row_count.ensures, count_low c.args.image.now (λ i. (c.shared_slice_known-1.given i).fits))
+overflow_mul-result c = omega (arith, c.row_count.ensures, count_low c.args.image.now (λ i. (c.type_inv.image i).fits))
 
 pub returns : goal.returns
 returns c = bytes_is c.args.image.now _ c.row_count.ensures

@@ -1,10 +1,10 @@
--- The sum is that of the bits of the bytes passed, 256 at a time. The measure is what is left of them. Assumes nothing.
-use Prim.Native.Nat.{◌≤◌, ◌-◌}
-use Rattle.ones.specs.Inside.Between.{OnesBetween}
+-- The sum and the ones of what is left are the ones of all. Assumes nothing.
+use Rattle.std.proofs.Common.{◌≡◌, ◌+◌, take}
+use Rattle.std.specs.Prelude.{sum_by, count_ones}
 use Rattle.ones.proofs.count_ones.Given as goal
 
-abbrev pub invariant-loop-i : goal.invariant-loop-i
-invariant-loop-i l = (l.i ≤ l.end) × OnesBetween l.m 0 l.i l.sum
-
-abbrev pub decreases-loop-i : goal.decreases-loop-i
-decreases-loop-i l = l.end - l.i
+abbrev pub invariant-loop-part : goal.invariant-loop-part
+invariant-loop-part l = record {
+  size : l.part-iterator.size ≡ 256;
+  sum : l.sum + sum_by count_ones l.part-iterator.rest.now ≡ sum_by count_ones (take 65536 l.m);
+}

@@ -1,2 +1,0 @@
--- What the functions of this crate promise one another. No public promise reaches it.
-pub mod Between
