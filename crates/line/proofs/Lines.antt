@@ -1,19 +1,24 @@
 -- The lines, part by part.
 use Prim.Native.Nat.{ℕ, ◌+◌, ◌≤◌}
 use native.Mathlib.Omega.{arith}
-use mathlib.Core.Path.{◌≡◌, ap}
+use mathlib.Core.Path.{◌≡◌, refl, ap}
 use mathlib.Core.Logic.{◌≢◌}
 use mathlib.Core.List.{List, [], ◌∷◌, ◌++◌, append_assoc}
 use lib.ListN.{length-append}
 use borrow.Author.Tests.{ne_eqb}
 use Rattle.bits.specs.Byte.{spelling}
-use Rattle.judgement.specs.Verdict.{Verdict, Yes, No, LimitMet, verdict_number}
+use Rattle.judgement.specs.declared.answer.Verdict.{Verdict}
+use Rattle.judgement.specs.declared.answer.Verdict.TheVariants.{Yes, No, LimitMet}
+use Rattle.judgement.specs.Verdict.{verdict_number}
 use Rattle.judgement.specs.Judge.{judged, refused}
-use Rattle.construction.specs.declared.Answer.TheVariants as Answer
+use Rattle.std.specs.Prelude.{Ok, Err}
+use Rattle.table.specs.declared.reason.Refusal.{Refusal}
+use Rattle.table.specs.Refusal.{number_of}
+use Rattle.construction.specs.declared.Sizes.{Sizes}
 use Rattle.line.specs.Inside.Adding.{Adds}
 use Rattle.line.specs.Decimal.{decimal}
 use Rattle.line.specs.CompileLine.{compile_line}
-use Rattle.line.specs.VerdictLine.{meaning, verdict_line, answer_with}
+use Rattle.line.specs.VerdictLine.{meaning, verdict_word, verdict_line, answer_with}
 use Rattle.line.proofs.Decimal.{decimal_short}
 
 -- with the byte behind it a number takes 21 bytes at most
@@ -21,16 +26,16 @@ pub number_short : {before after : List ℕ} {from to : ℕ} (n behind : ℕ) �
 number_short n behind a = omega (arith, a.ends, length-append (decimal n) (behind ∷ []), decimal_short n)
 
 -- the compile program's line
-pub compiled_line : (bytes states rows : ℕ)
-    → spelling "ok " ++ ((decimal states ++ (32 ∷ [])) ++ ((decimal rows ++ (32 ∷ [])) ++ (decimal bytes ++ (10 ∷ []))))
-    ≡ compile_line (Answer.Compiled bytes states rows)
+pub compiled_line : (s : Sizes)
+    → spelling "ok " ++ ((decimal s.states ++ (32 ∷ [])) ++ ((decimal s.rows ++ (32 ∷ [])) ++ (decimal s.bytes ++ (10 ∷ []))))
+    ≡ compile_line (Ok s)
 unfolding compile_line
-compiled_line bytes states rows = simp append_assoc
+compiled_line s = simp append_assoc
 
-pub compile_refused_line : (number place : ℕ)
-    → spelling "no " ++ ((decimal number ++ (32 ∷ [])) ++ (decimal place ++ (10 ∷ []))) ≡ compile_line (Answer.Refused number place)
+pub compile_refused_line : (r : Refusal) (number : ℕ) → number ≡ number_of r.reason
+    → spelling "no " ++ ((decimal number ++ (32 ∷ [])) ++ (decimal r.place ++ (10 ∷ []))) ≡ compile_line (Err r)
 unfolding compile_line
-compile_refused_line number place = simp append_assoc
+compile_refused_line r number e = rw e (simp append_assoc)
 
 -- the verdict program's line of a refusal
 pub verdict_refused_line : (number place : ℕ)
@@ -40,9 +45,9 @@ unfolding verdict_line
 verdict_refused_line number place = simp append_assoc
 
 -- what a number means that is none of the first four
-pub meaning-last : (n : ℕ) → n ≢ 21 → n ≢ 22 → n ≢ 23 → n ≢ 24 → meaning n ≡ spelling "the mark buffer has another length"
+pub meaning-last : (n : ℕ) → n ≢ 21 → n ≢ 22 → n ≢ 23 → n ≢ 24 → spelling "the mark buffer has another length\n" ≡ meaning n ++ spelling "\n"
 unfolding meaning
-meaning-last n a b c d = simp (ne_eqb n 21 a, ne_eqb n 22 b, ne_eqb n 23 c, ne_eqb n 24 d)
+meaning-last n a b c d = rw (ne_eqb n 21 a, ne_eqb n 22 b, ne_eqb n 23 c, ne_eqb n 24 d) refl
 
 -- the answer with a verdict's number, and that with no verdict's number
 pub answer_judged : (v : Verdict) (n count : ℕ) → n ≡ verdict_number v → answer_with n count ≡ judged v count
@@ -54,3 +59,9 @@ answer_judged LimitMet n count is = ap (λ (k : ℕ). answer_with k count) is
 pub answer_refused : (n p : ℕ) → n ≢ 1 → n ≢ 2 → n ≢ 3 → answer_with n p ≡ refused n p
 unfolding answer_with
 answer_refused n p a b c = simp (ne_eqb n 1 a, ne_eqb n 2 b, ne_eqb n 3 c)
+
+-- the verdict program's line of a verdict
+pub verdict_judged_line : (v : Verdict) (count : ℕ) {word : List ℕ} → word ≡ verdict_word v ++ spelling " "
+    → word ++ (decimal count ++ (10 ∷ [])) ≡ verdict_line (judged v count)
+unfolding verdict_line
+verdict_judged_line v count e = rw e (simp append_assoc)

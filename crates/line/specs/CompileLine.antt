@@ -1,12 +1,14 @@
 -- The compile program's line: `ok`, states, rows, image bytes; or `no`, number, place.
-use Rattle.std.specs.Prelude.{ℕ, List, ◌++◌}
+use Rattle.std.specs.Prelude.{ℕ, List, ◌++◌, Result, Ok, Err}
 use Rattle.bits.specs.Byte.{spelling}
-use Rattle.construction.specs.declared.Answer.{Answer}
-use Rattle.construction.specs.declared.Answer.TheVariants.{Compiled, Refused}
+use Rattle.table.specs.Refusal.{number_of}
+use Rattle.table.specs.declared.reason.Refusal.{Refusal}
+use Rattle.construction.specs.declared.Sizes.{Sizes}
 use Rattle.line.specs.Decimal.{decimal}
 
-unfoldable pub compile_line : Answer → List ℕ
-compile_line (Compiled bytes states rows) =
-    spelling "ok " ++ (decimal states ++ (spelling " " ++ (decimal rows ++ (spelling " " ++ (decimal bytes ++ spelling "\n")))))
-compile_line (Refused number place) =
-    spelling "no " ++ (decimal number ++ (spelling " " ++ (decimal place ++ spelling "\n")))
+unfoldable pub compile_line : Result Sizes Refusal → List ℕ
+compile_line (Ok sizes) =
+    spelling "ok "
+    ++ (decimal sizes.states ++ (spelling " " ++ (decimal sizes.rows ++ (spelling " " ++ (decimal sizes.bytes ++ spelling "\n")))))
+compile_line (Err refusal) =
+    spelling "no " ++ (decimal (number_of refusal.reason) ++ (spelling " " ++ (decimal refusal.place ++ spelling "\n")))

@@ -1,7 +1,8 @@
 -- The verdict program's line: `yes`, `no` or `limit met`, and the count; or `refused`, number, place, and what the number means.
 use Rattle.std.specs.Prelude.{ℕ, ◌/◌, ◌%◌, cond, List, ◌++◌, eqb}
 use Rattle.bits.specs.Byte.{spelling}
-use Rattle.judgement.specs.Verdict.{Verdict, Yes, No, LimitMet}
+use Rattle.judgement.specs.declared.answer.Verdict.{Verdict}
+use Rattle.judgement.specs.declared.answer.Verdict.TheVariants.{Yes, No, LimitMet}
 use Rattle.judgement.specs.Judge.{Answer, judged, refused}
 use Rattle.line.specs.Decimal.{decimal}
 

@@ -1,40 +1,38 @@
 // The compile program's line.
-ghost use Rattle.std.specs.Prelude.{◌≤◌, length};
+ghost use Rattle.std.specs.Prelude.{◌≤◌, length, Ok, Err};
 ghost use Rattle.line.specs.CompileLine.{compile_line};
 ghost use Rattle.line.specs.Standing.{Stands};
 
 use crate::parts::{add, number};
-use construction::Answer;
+use construction::Sizes;
+use table::reason::Refusal;
 
-fn compiled(out: &mut [u8], bytes: usize, states: usize, rows: usize) -> usize
+fn compiled(out: &mut [u8], sizes: Sizes) -> usize
     requires { 66 ≤ length out.old }
-    ensures { Stands out.old out.new result (compile_line (Answer.Compiled bytes states rows)) }
+    ensures { Stands out.old out.new result (compile_line (Ok sizes)) }
 {
     let start = add(out, 0, b"ok ");
-    let first = number(out, start, states, b' ');
-    let second = number(out, first, rows, b' ');
-    number(out, second, bytes, b'\n')
+    let first = number(out, start, sizes.states, b' ');
+    let second = number(out, first, sizes.rows, b' ');
+    number(out, second, sizes.bytes, b'\n')
 }
 
-fn refused(out: &mut [u8], refusal: usize, place: usize) -> usize
+fn refused(out: &mut [u8], refusal: Refusal) -> usize
     requires { 66 ≤ length out.old }
-    ensures { Stands out.old out.new result (compile_line (Answer.Refused refusal place)) }
+    ensures { Stands out.old out.new result (compile_line (Err refusal)) }
 {
+    let named = refusal.reason.number();
     let start = add(out, 0, b"no ");
-    let first = number(out, start, refusal, b' ');
-    number(out, first, place, b'\n')
+    let first = number(out, start, usize::from(named), b' ');
+    number(out, first, refusal.place, b'\n')
 }
 
 // Writes the line of an answer, and answers the line's length.
-pub fn compile_line(answer: Answer, out: &mut [u8; 66]) -> usize
+pub fn compile_line(answer: Result<Sizes, Refusal>, out: &mut [u8; 66]) -> usize
     ensures { Stands out.old out.new result (compile_line answer) }
 {
     match answer {
-        Answer::Compiled {
-            bytes,
-            states,
-            rows,
-        } => compiled(out, bytes, states, rows),
-        Answer::Refused { number, place } => refused(out, number, place),
+        Ok(sizes) => compiled(out, sizes),
+        Err(refusal) => refused(out, refusal),
     }
 }

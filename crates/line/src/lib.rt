@@ -6,4 +6,4 @@ mod parts;
 mod verdict;
 
 pub use compile::compile_line;
-pub use verdict::verdict_line;
+pub use verdict::{answer_line, verdict_line};

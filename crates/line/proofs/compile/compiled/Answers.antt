@@ -15,4 +15,4 @@ returns c =
     adds_stands
     (adds_as
     (adds_both c.add-start.ensures (adds_both c.number-first.ensures (adds_both c.number-second.ensures c.number.ensures)))
-    (compiled_line _ _ _))
+    (compiled_line _))

@@ -1,29 +1,25 @@
--- What is added is what the number means.
-use Rattle.std.proofs.Common.{ℕ, List, ◌++◌, sym, ap}
+-- What is answered is what the number means.
+use Rattle.std.proofs.Common.{ℕ, ◌++◌, sym, ap, rules}
 use Rattle.bits.specs.Byte.{spelling}
 use Rattle.line.specs.VerdictLine.{meaning}
-use Rattle.line.proofs.Standing.{adds_as}
 use Rattle.line.proofs.Lines.{meaning-last}
 use Rattle.line.proofs.verdict.meaning.Goals as goal
 
-pub returns-then-refusal-eq21 : goal.returns-then-refusal-eq21
+pub returns-in-21-clause-is : goal.returns-in-21-clause-is
 unfolding meaning
-returns-then-refusal-eq21 c = adds_as c.add.ensures (ap (λ (n : ℕ). meaning n ++ spelling "\n") (sym c.if-refusal-eq21.true))
+returns-in-21-clause-is c = ap (λ (n : ℕ). meaning n ++ spelling "\n") (sym c.in-21.is)
 
-pub returns-then-refusal-eq22 : goal.returns-then-refusal-eq22
+pub returns-in-22-clause-is : goal.returns-in-22-clause-is
 unfolding meaning
-returns-then-refusal-eq22 c = adds_as c.add-then-refusal-eq22.ensures (ap (λ (n : ℕ). meaning n ++ spelling "\n") (sym c.if-refusal-eq22.true))
+returns-in-22-clause-is c = ap (λ (n : ℕ). meaning n ++ spelling "\n") (sym c.in-22.is)
 
-pub returns-then-refusal-eq23 : goal.returns-then-refusal-eq23
+pub returns-in-23-clause-is : goal.returns-in-23-clause-is
 unfolding meaning
-returns-then-refusal-eq23 c = adds_as c.add-then-refusal-eq23.ensures (ap (λ (n : ℕ). meaning n ++ spelling "\n") (sym c.if-refusal-eq23.true))
+returns-in-23-clause-is c = ap (λ (n : ℕ). meaning n ++ spelling "\n") (sym c.in-23.is)
 
-pub returns-then-refusal-eq24 : goal.returns-then-refusal-eq24
+pub returns-in-24-clause-is : goal.returns-in-24-clause-is
 unfolding meaning
-returns-then-refusal-eq24 c = adds_as c.add-then-refusal-eq24.ensures (ap (λ (n : ℕ). meaning n ++ spelling "\n") (sym c.if-refusal-eq24.true))
+returns-in-24-clause-is c = ap (λ (n : ℕ). meaning n ++ spelling "\n") (sym c.in-24.is)
 
-pub returns : goal.returns
-returns c =
-    adds_as c.add-2.ensures
-    (ap (λ (l : List ℕ). l ++ spelling "\n")
-    (sym (meaning-last _ c.if-refusal-eq21.false c.if-refusal-eq22.false c.if-refusal-eq23.false c.if-refusal-eq24.false)))
+pub returns-in_default-clause-is : goal.returns-in_default-clause-is
+returns-in_default-clause-is c = meaning-last _ (search rules) (search rules) (search rules) (search rules)
