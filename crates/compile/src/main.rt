@@ -3,7 +3,6 @@
 // error, and then no line is printed.
 #![tactic(auto)]
 
-use files::Input;
 use std::env::{Env, FillError};
 use std::io::Write;
 
@@ -12,10 +11,7 @@ const STANDARD_INPUT: &str = "/proc/self/fd/0";
 
 // Whether an argument is there, be it longer than any name.
 fn given(rt: &HostRuntime, i: usize) -> bool {
-    match rt.arg(i, &mut []) {
-        Err(FillError::NotPresent) => false,
-        _ => true,
-    }
+    !matches!(rt.arg(i, &mut []), Err(FillError::NotPresent))
 }
 
 fn usage(rt: &HostRuntime) {
@@ -41,13 +37,6 @@ fn saved(rt: &HostRuntime, image: &[u8]) -> bool {
     }
 }
 
-// A line that cannot be written is said on standard error: no line never means that all is well.
-fn shown(rt: &HostRuntime, line: &[u8]) {
-    if let Err(error) = rt.stdout().write_all(line) {
-        let _ = files::fail(rt, &mut rt.stderr(), b"compile: standard output", error);
-    }
-}
-
 // The file is written before the line, so that `ok` says that it is there.
 fn compile(rt: &HostRuntime, text: &[u8; 4097], many: usize) {
     let mut image = [0u8; 8246];
@@ -60,7 +49,14 @@ fn compile(rt: &HostRuntime, text: &[u8; 4097], many: usize) {
         }
     }
     let length = answered.line;
-    shown(rt, &line[..length]);
+    let name = b"compile: standard output";
+    let _ = files::show(
+        rt,
+        &mut rt.stdout(),
+        &mut rt.stderr(),
+        name,
+        &line[..length],
+    );
 }
 
 fn main(rt: HostRuntime) {
@@ -69,11 +65,10 @@ fn main(rt: HostRuntime) {
         return;
     }
     let mut text = [0u8; 4097];
-    let got = files::read_all(&mut rt.stdin(), &mut text);
-    if let Input::Failed(error) = got {
-        let _ = files::fail(&rt, &mut rt.stderr(), b"compile: standard input", error);
-        return;
+    match files::read_all(&mut rt.stdin(), &mut text) {
+        Ok(n) => compile(&rt, &text, n),
+        Err(error) => {
+            let _ = files::fail(&rt, &mut rt.stderr(), b"compile: standard input", error);
+        }
     }
-    let n = files::count(got, &text);
-    compile(&rt, &text, n);
 }

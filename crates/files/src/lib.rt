@@ -12,7 +12,7 @@ ghost use Rattle.files.specs.Reading.{Within, Comes};
 pub use naming::{open, text};
 use std::io;
 use std::io::Read;
-pub use telling::{fail, reason, say};
+pub use telling::{fail, reason, say, show};
 
 // Reads once into the buffer from `from` on.
 fn read_some<R: Read>(reader: &mut R, buf: &mut [u8], from: usize) -> io::Result<usize>

@@ -1,5 +1,5 @@
 // What a program says on standard error: a name, a colon and what is wrong, as perror writes it.
-ghost use Rattle.std.specs.Prelude.{OnOk};
+ghost use Rattle.std.specs.Prelude.{OnOk, ◌≡◌, true};
 ghost use Rattle.std.specs.Io.KnownBytes.{Appends};
 ghost use Rattle.files.specs.Telling.{told};
 
@@ -36,5 +36,24 @@ pub fn fail<R: AllocGlobal, W: Write>(
     match reason(rt.alloc(), error) {
         Ok(words) => say(errors, name, words.as_bytes()),
         Err(_) => say(errors, name, b"Cannot allocate memory"),
+    }
+}
+
+// Writes a program's line. One that cannot be written is said on standard error: no line never means that all is well.
+pub fn show<R: AllocGlobal, O: Write, E: Write>(
+    rt: &R,
+    out: &mut O,
+    errors: &mut E,
+    name: &[u8],
+    line: &[u8],
+) -> bool
+    ensures { result ≡ true → Appends (O.contents out.old) (O.contents out.new) line.now }
+{
+    match out.write_all(line) {
+        Ok(()) => true,
+        Err(error) => {
+            let _ = fail(rt, errors, name, error);
+            false
+        }
     }
 }

@@ -2,16 +2,11 @@
 // `limit met COUNT`, or `refused NUMBER PLACE` and what that means. What cannot be judged at all is said on standard error.
 #![tactic(auto)]
 
-use files::Input;
-use std::env::Env;
-use std::io::Write;
+ghost use Rattle.std.specs.Prelude.{◌≤◌, IfOk};
 
-// A line that cannot be written is said on standard error: no line never means that all is well.
-fn shown(rt: &HostRuntime, line: &[u8]) {
-    if let Err(error) = rt.stdout().write_all(line) {
-        let _ = files::fail(rt, &mut rt.stderr(), b"verdict: standard output", error);
-    }
-}
+use std::env::Env;
+use std::io;
+use std::io::Write;
 
 fn usage(rt: &HostRuntime) {
     let _ = rt.stderr().write_all(
@@ -19,58 +14,62 @@ fn usage(rt: &HostRuntime) {
     );
 }
 
-// Judges with an image that is in memory. A limit that is no number is told like arguments that are missing.
-fn judge(rt: &HostRuntime, image: &[u8; 8247], many: usize, word: &[u8], digits: &[u8]) {
+// Judges with an image that is in memory, or nothing where the limit is no number.
+fn judge(
+    rt: &HostRuntime,
+    image: &[u8; 8247],
+    many: usize,
+    word: &[u8],
+    digits: &[u8],
+) -> Option<()> {
     let mut marks = [0u8; 65536];
     let mut line = [0u8; 105];
     let n = programs::judge_word(image, many, word, digits, &mut marks, &mut line);
     if n == 0 {
-        usage(rt);
-        return;
+        return None;
     }
-    shown(rt, &line[..n]);
+    let name = b"verdict: standard output";
+    let _ = files::show(rt, &mut rt.stdout(), &mut rt.stderr(), name, &line[..n]);
+    Some(())
 }
 
 // Judges with the image in a file.
-fn judge_file(rt: &HostRuntime, path: &[u8], word: &[u8], digits: &[u8]) {
-    let mut file = match files::open(rt, path) {
-        Ok(file) => file,
+fn judge_file(rt: &HostRuntime, path: &[u8], word: &[u8], digits: &[u8]) -> Option<()> {
+    let mut image = [0u8; 8247];
+    match read(rt, path, &mut image) {
+        Ok(n) => judge(rt, &image, n, word, digits),
         Err(error) => {
             let _ = files::fail(rt, &mut rt.stderr(), path, error);
-            return;
+            Some(())
         }
-    };
-    let mut image = [0u8; 8247];
-    let got = files::read_all(&mut file, &mut image);
-    drop(file);
-    if let Input::Failed(error) = got {
-        let _ = files::fail(rt, &mut rt.stderr(), path, error);
-        return;
     }
-    let n = files::count(got, &image);
-    judge(rt, &image, n, word, digits);
 }
 
-fn main(rt: HostRuntime) {
+fn read(rt: &HostRuntime, path: &[u8], image: &mut [u8; 8247]) -> io::Result<usize>
+    ensures { IfOk result (λ n. n ≤ 8247) }
+{
+    let mut file = files::open(rt, path)?;
+    files::read_all(&mut file, image)
+}
+
+// Nothing where an argument is missing, too long for a name, or no number.
+fn judged(rt: &HostRuntime) -> Option<()> {
     let mut path = [0u8; 4096];
-    let Ok(path_len) = rt.arg(1, &mut path) else {
-        usage(&rt);
-        return;
-    };
+    let path_len = rt.arg(1, &mut path).ok()?;
     let mut word = [0u8; 4096];
-    let Ok(word_len) = rt.arg(2, &mut word) else {
-        usage(&rt);
-        return;
-    };
+    let word_len = rt.arg(2, &mut word).ok()?;
     let mut digits = [0u8; 4096];
-    let Ok(digits_len) = rt.arg(3, &mut digits) else {
-        usage(&rt);
-        return;
-    };
+    let digits_len = rt.arg(3, &mut digits).ok()?;
     judge_file(
-        &rt,
+        rt,
         &path[..path_len],
         &word[..word_len],
         &digits[..digits_len],
-    );
+    )
+}
+
+fn main(rt: HostRuntime) {
+    if judged(&rt).is_none() {
+        usage(&rt);
+    }
 }

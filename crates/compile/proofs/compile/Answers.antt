@@ -11,5 +11,5 @@ slice_bounds-saved-end c = (text_counts c.compile_text-answered.ensures).0.1
 pub slice_bounds-line-end : goal.slice_bounds-line-end
 slice_bounds-line-end c = (text_counts c.compile_text-answered.ensures).1.0
 
-pub slice_bounds-shown-end : goal.slice_bounds-shown-end
-slice_bounds-shown-end c = (text_counts c.compile_text-answered.ensures).1.1
+pub slice_bounds-show-end-2 : goal.slice_bounds-show-end-2
+slice_bounds-show-end-2 c = (text_counts c.compile_text-answered.ensures).1.1
