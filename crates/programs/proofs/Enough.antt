@@ -12,7 +12,10 @@ use Rattle.table.specs.Refusal.{First}
 use Rattle.table.proofs.Image.{length-encode}
 use Rattle.construction.specs.Compile as Compile
 use Rattle.construction.specs.Compile.{Compiles}
-use Rattle.construction.specs.declared.Answer.{Answer}
+use Rattle.std.specs.Prelude.{Result, Ok, Err}
+use Rattle.table.specs.Refusal.{number_of}
+use Rattle.table.specs.declared.reason.Refusal.{Refusal}
+use Rattle.construction.specs.declared.Sizes.{Sizes}
 use Rattle.judgement.specs.Judge as Judge
 use Rattle.judgement.specs.Judge.{Judges}
 
@@ -24,15 +27,15 @@ unfolding First
 first_long short long before s l n p (inl (number, (place, _))) = inl (number, (place, l))
 first_long short long before s l n p (inr (none, _)) = absurd (none 1 0 (refl, (refl, s)))
 
-long_alike : {short long before after : List ℕ} (answer : Answer) → 4096 < length short → 4096 < length long
+long_alike : {short long before after : List ℕ} (answer : Result Sizes Refusal) → 4096 < length short → 4096 < length long
     → Compiles short before after answer
     → Compiles long before after answer
-long_alike (Answer.Compiled bytes states rows) s l c = absurd (omega (arith, c.right.compilable.short))
-long_alike {short} {long} {before} (Answer.Refused n p) s l c =
-    record { right = record { first = first_long short long before s l n p c.right.first; unchanged = c.right.unchanged } }
+long_alike (Ok sizes) s l c = absurd (omega (arith, c.right.compilable.short))
+long_alike {short} {long} {before} (Err r) s l c =
+    record { right = record { first = first_long short long before s l (number_of r.reason) r.place c.right.first; unchanged = c.right.unchanged } }
 
 -- the first 4,097 bytes of an input
-pub enough_of_a_text : (input : List ℕ) {before after : List ℕ} {answer : Answer}
+pub enough_of_a_text : (input : List ℕ) {before after : List ℕ} {answer : Result Sizes Refusal}
     → Compiles (take 4097 input) before after answer
     → Compiles input before after answer
 enough_of_a_text input {before} {after} {answer} c = by_cases (dec_lt 4097 (length input))

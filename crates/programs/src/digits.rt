@@ -1,37 +1,20 @@
 // The limit that the verdict program is given in digits.
-ghost use Rattle.std.specs.Prelude.{◌≡◌};
 ghost use Rattle.programs.specs.Limit.{Says};
 
-use crate::Limit;
-
 // The limit that one to three digits say. Three are enough: every limit above 31 is refused with the same number.
-pub fn limit_said(digits: &[u8]) -> Limit
+pub fn limit_said(digits: &[u8]) -> Option<u64>
     ensures { Says digits.now result }
 {
-    if digits.len() == 0 {
-        return Limit::Unsaid;
-    }
-    if 3 < digits.len() {
-        return Limit::Unsaid;
+    if digits.is_empty() || 3 < digits.len() {
+        return None;
     }
     let mut value = 0;
-    let mut i = 0;
-    while i < digits.len() {
-        let b = digits[i];
-        if b < b'0' {
-            return Limit::Unsaid;
+    for digit in digits {
+        let b = *digit;
+        if !b.is_ascii_digit() {
+            return None;
         }
-        if b'9' < b {
-            return Limit::Unsaid;
-        }
-        value = 10 * value + wide(b - b'0');
-        i += 1;
+        value = 10 * value + u64::from(b - b'0');
     }
-    Limit::Said(value)
-}
-
-fn wide(b: u8) -> u64
-    ensures { result ≡ b }
-{
-    b as u64
+    Some(value)
 }

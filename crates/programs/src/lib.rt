@@ -4,23 +4,15 @@
 
 mod compile;
 mod digits;
-mod part;
 mod verdict;
 
 pub use compile::compile_text;
 pub use digits::limit_said;
 pub use verdict::judge_word;
 
-// How many bytes of the image there are, none where the text was refused, and how many of the line.
-#[derive(Clone, Copy)]
+// How many bytes of the image there are, if the text was compiled, and how many of the line.
+#[derive(Clone, Copy, Debug, PartialEq, Eq)]
 pub struct Answered {
-    pub image: usize,
+    pub image: Option<usize>,
     pub line: usize,
-}
-
-// The limit that digits say.
-#[derive(Clone, Copy)]
-pub enum Limit {
-    Said(u64),
-    Unsaid,
 }

@@ -1,11 +1,8 @@
 -- Each turn reads one digit more. Assumes nothing.
-use Prim.Native.Nat.{◌-◌, ◌≤◌}
+use Prim.Native.Nat.{◌≤◌}
 use lib.ListN.{length}
 use Rattle.programs.proofs.Saying.{Halfway}
 use Rattle.programs.proofs.digits.limit_said.Given as goal
 
-abbrev pub invariant-loop-i : goal.invariant-loop-i
-invariant-loop-i l = (1 ≤ length l.digits) × (length l.digits ≤ 3) × Halfway l.digits l.value l.i
-
-abbrev pub decreases-loop-i : goal.decreases-loop-i
-decreases-loop-i l = length l.digits - l.i
+abbrev pub invariant-loop-digit : goal.invariant-loop-digit
+invariant-loop-digit l = (1 ≤ length l.digits) × (length l.digits ≤ 3) × Halfway l.digits l.value l.digit-index
