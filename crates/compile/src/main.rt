@@ -38,12 +38,11 @@ fn saved(rt: &HostRuntime, image: &[u8]) -> bool {
 }
 
 // The file is written before the line, so that `ok` says that it is there.
-fn compile(rt: &HostRuntime, text: &[u8; 4097], many: usize) {
+fn compile(rt: &HostRuntime, text: &[u8]) {
     let mut image = [0u8; 8246];
     let mut line = [0u8; 66];
-    let answered = programs::compile_text(text, many, &mut image, &mut line);
-    let bytes = answered.image;
-    if 0 < bytes {
+    let answered = programs::compile_text(text, &mut image, &mut line);
+    if let Some(bytes) = answered.image {
         if !saved(rt, &image[..bytes]) {
             return;
         }
@@ -64,9 +63,10 @@ fn main(rt: HostRuntime) {
         usage(&rt);
         return;
     }
+    // A text may have 4,096 bytes, so a buffer that is full tells a longer one.
     let mut text = [0u8; 4097];
     match files::read_all(&mut rt.stdin(), &mut text) {
-        Ok(n) => compile(&rt, &text, n),
+        Ok(n) => compile(&rt, &text[..n]),
         Err(error) => {
             let _ = files::fail(&rt, &mut rt.stderr(), b"compile: standard input", error);
         }

@@ -15,19 +15,10 @@ fn usage(rt: &HostRuntime) {
 }
 
 // Judges with an image that is in memory, or nothing where the limit is no number.
-fn judge(
-    rt: &HostRuntime,
-    image: &[u8; 8247],
-    many: usize,
-    word: &[u8],
-    digits: &[u8],
-) -> Option<()> {
+fn judge(rt: &HostRuntime, image: &[u8], word: &[u8], digits: &[u8]) -> Option<()> {
     let mut marks = [0u8; 65536];
     let mut line = [0u8; 105];
-    let n = programs::judge_word(image, many, word, digits, &mut marks, &mut line);
-    if n == 0 {
-        return None;
-    }
+    let n = programs::judge_word(image, word, digits, &mut marks, &mut line)?;
     let name = b"verdict: standard output";
     let _ = files::show(rt, &mut rt.stdout(), &mut rt.stderr(), name, &line[..n]);
     Some(())
@@ -35,9 +26,10 @@ fn judge(
 
 // Judges with the image in a file.
 fn judge_file(rt: &HostRuntime, path: &[u8], word: &[u8], digits: &[u8]) -> Option<()> {
+    // An image has at most 8,246 bytes, so a buffer that is full tells a longer file.
     let mut image = [0u8; 8247];
     match read(rt, path, &mut image) {
-        Ok(n) => judge(rt, &image, n, word, digits),
+        Ok(n) => judge(rt, &image[..n], word, digits),
         Err(error) => {
             let _ = files::fail(rt, &mut rt.stderr(), path, error);
             Some(())
