@@ -5,7 +5,8 @@ ghost use Rattle.line.specs.Inside.Adding.{Adds};
 
 use itoa::Buffer;
 
-// These bytes behind those that stand already.
+// These bytes behind those that stand already. `saving` and `compiler` have such a function too: one that crates share has no `requires`,
+// and would have to say what it does where the bytes don't fit.
 pub fn add(out: &mut [u8], at: usize, bytes: &[u8]) -> usize
     requires { at + length bytes.now ≤ length out.old }
     ensures { Adds out.old out.new at result bytes.now }

@@ -13,7 +13,8 @@ ghost use Rattle.machine.specs.Inside.Change.{outcome_of};
 use cells::{Symbol, head};
 use table::{Row, form};
 
-// What a row's step comes to: a cell and a counter, or the row can't be taken, or it would pass the limit.
+// What a row's step comes to: a cell and a counter, or the row can't be taken, or it would pass the limit. The search goes on after each,
+// so none of the three is an error.
 #[derive(Clone, Copy, Debug, PartialEq, Eq)]
 pub enum Outcome {
     Goes { cell: usize, counter: usize },

@@ -43,7 +43,8 @@ fn named(path: &[u8]) -> Result<(), Unsaved<'_>>
     Ok(())
 }
 
-// These bytes in place of those from `at` on.
+// These bytes in place of those from `at` on. `line` and `compiler` have such a function too: one that crates share has no `requires`, and
+// would have to say what it does where the bytes don't fit.
 fn put_bytes(buffer: &mut [u8], at: usize, bytes: &[u8])
     requires { at + length bytes.now ≤ length buffer.old }
     ensures { buffer.new ≡ take at buffer.old ++ bytes.now ++ drop (at + length bytes.now) buffer.old }

@@ -5,7 +5,8 @@ pub mod form; // form.rt: the places of the fields, and the codes in a row
 pub mod reason; // reason.rt: why an entry refuses, and where
 pub mod source; // source.rt: where a search finds the rows that leave a state
 
-// A row as it stands in an image; `motion` is its move.
+// A row as it stands in an image; `motion` is its move. Its codes stay bytes and are no enums: `symbol_fits`, `counter_fits` and `step` of
+// `machine` and `moved` of `cells` promise what they do with every byte, also with one that no well-formed image has.
 #[derive(Clone, Copy)]
 pub struct Row {
     pub from: usize,

@@ -13,7 +13,8 @@ use super::signs::{pair, single};
 use super::words::word_of;
 use text::Token;
 
-#[derive(Clone, Copy)]
+// What stands at a byte. Both cases carry something, and neither is nothing or a failure, so this is no Option and no Result.
+#[derive(Clone, Copy, Debug, PartialEq, Eq)]
 pub enum Step {
     Blank { next: usize },
     Token(Token),
