@@ -1,58 +1,39 @@
--- Bytes that are no sign, by the arms of the matches that they fall past.
+-- Bytes that are written as no sign of the code are none of the signs.
 use Prim.Native.Nat.{ℕ}
-use mathlib.Core.Path.{◌≡◌, sym, ap₂, ◌∙◌}
-use mathlib.Core.Bool.{Bool, false, not, ◌||◌}
-use mathlib.Core.Logic.{⊎_elim}
-use mathlib.Core.List.{List, [], ◌∷◌, Memᴰ}
-use lib.Dec.{T, eqb, eqb→eq, eqb_refl}
-use Rattle.bits.proofs.Tests.{every, every_at}
+use mathlib.Core.Path.{◌≡◌, sym}
+use mathlib.Core.List.{List, [], ◌∷◌, Memᴰ, map}
 use Rattle.text.specs.Token.{signs}
-use Rattle.text.proofs.Runs.{T_true, T_either}
-use Rattle.text.proofs.Signed.{of_one, of_two}
-use Rattle.tokeniser.proofs.Sorting.{NoKey, unless, no_key}
+use Rattle.text.specs.First.{written}
+use Rattle.text.specs.declared.Sign.{Sign}
 
--- a test that only these keys pass
-abbrev pub only_keys : List (List ℕ) → ℕ → Bool
-only_keys kss = unless kss (λ (x : ℕ). false)
+-- the signs of the code, in the order of those that document 01 lists
+abbrev all_signs : List Sign
+all_signs =
+    Sign.Becomes
+    ∷ Sign.Equals
+    ∷ Sign.Differs
+    ∷ Sign.Not
+    ∷ Sign.And
+    ∷ Sign.Or
+    ∷ Sign.Increment
+    ∷ Sign.Decrement
+    ∷ Sign.Add
+    ∷ Sign.Subtract
+    ∷ Sign.Minus
+    ∷ Sign.OpenParen
+    ∷ Sign.CloseParen
+    ∷ Sign.OpenBrace
+    ∷ Sign.CloseBrace
+    ∷ Sign.OpenBracket
+    ∷ Sign.CloseBracket
+    ∷ Sign.Comma
+    ∷ Sign.Semicolon
+    ∷ []
 
--- where the signs of one byte are keys, what is no key is no sign
-pub no_single : (kss : List (List ℕ)) (a : ℕ) → T (every (of_one (only_keys kss)) signs) → NoKey kss a → ¬ Memᴰ (a ∷ []) signs
-no_single kss a t none m = no_key kss (λ (x : ℕ). false) a none (every_at (of_one (only_keys kss)) m t)
+none_written : (xs : List Sign) (l : List ℕ) → ((x : Sign) → ¬ (written x ≡ l)) → ¬ Memᴰ l (map written xs)
+none_written [] l h m = elim m [ ]
+none_written (x ∷ xs) l h (Memᴰ.head e) = h x (sym e)
+none_written (x ∷ xs) l h (Memᴰ.tail m) = none_written xs l h m
 
--- the same of the signs of two bytes that end with this one
-pub no_ending : (kss : List (List ℕ)) (a b k : ℕ)
-    → T (every (of_two (λ (x y : ℕ). not (eqb y k) || only_keys kss x)) signs)
-    → b ≡ k
-    → NoKey kss a
-    → ¬ Memᴰ (a ∷ b ∷ []) signs
-no_ending kss a b k t e none m =
-    let u : T (not (eqb k k) || only_keys kss a) = every_at (of_two (λ (x y : ℕ). not (eqb y k) || only_keys kss x)) (rw e at m) t in
-    no_key kss (λ (x : ℕ). false) a none (rw (T_true (eqb k k) (eqb_refl k)) at u)
-
--- a sign of two bytes ends with this one or has one byte twice
-pub no_mixed : (a b k : ℕ)
-    → T (every (of_two (λ (x y : ℕ). eqb y k || eqb x y)) signs)
-    → (b ≡ k → ⊥)
-    → (a ≡ b → ⊥)
-    → ¬ Memᴰ (a ∷ b ∷ []) signs
-no_mixed a b k t h g m =
-    ⊎_elim
-    (λ e. h (eqb→eq b k e))
-    (λ e. g (eqb→eq a b e))
-    (T_either (eqb b k) (eqb a b) (every_at (of_two (λ (x y : ℕ). eqb y k || eqb x y)) m t))
-
--- or else its first is a key
-pub no_double : (kss : List (List ℕ)) (a b k : ℕ)
-    → T (every (of_two (λ (x y : ℕ). eqb y k || only_keys kss x)) signs)
-    → (b ≡ k → ⊥)
-    → NoKey kss a
-    → ¬ Memᴰ (a ∷ b ∷ []) signs
-no_double kss a b k t h none m =
-    ⊎_elim
-    (λ e. h (eqb→eq b k e))
-    (no_key kss (λ (x : ℕ). false) a none)
-    (T_either (eqb b k) (only_keys kss a) (every_at (of_two (λ (x y : ℕ). eqb y k || only_keys kss x)) m t))
-
--- one byte twice
-pub twice : {a b k : ℕ} → a ≡ k → a ≡ b → (a ∷ b ∷ []) ≡ (k ∷ k ∷ [])
-twice e f = ap₂ (λ (x y : ℕ). x ∷ y ∷ []) e (sym f ∙ e)
+pub no_sign : {l : List ℕ} → ((x : Sign) → ¬ (written x ≡ l)) → ¬ Memᴰ l signs
+no_sign {l} h m = none_written all_signs l h m

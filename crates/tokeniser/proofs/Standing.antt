@@ -23,6 +23,7 @@ use Rattle.tokeniser.specs.declared.kinds.Kind.TheVariants as Kinds
 use Rattle.text.specs.Inside.Scan.{Sort, of_letter, of_sign, Kind, for_token, for_comment, kind, run, letter_reach, reach, made, skip, bad, lex_comment, lex_token, lex_as, lex}
 use Rattle.text.proofs.Runs.{run_on, run_off, run_out}
 use Rattle.text.proofs.Reach.{kind_word, kind_number, kind_white}
+use Rattle.tokeniser.proofs.Signing.{no_sign}
 use Rattle.tokeniser.proofs.Sorting.{kind-sorted, no_begin}
 use Rattle.text.proofs.Signed.{written_sign, two_long, one_long, none_long}
 use Rattle.text.proofs.Front.{lexed}
@@ -240,14 +241,14 @@ module _ (text : List ℕ) (p : ℕ) (inside : p < length text) where
           → IsSign (get_or text p 0 ∷ []) q
           → q ≡ Some x
           → FirstToken text p (Token.Sign p (p + 1) x)
-      single_first x e one f = one_first signs-kind x (answered e) (subst (IsSign (get_or text p 0 ∷ [])) f one)
+      single_first x e one f = one_first signs-kind x (no_sign (answered e)) (subst (IsSign (get_or text p 0 ∷ [])) f one)
 
       pub neither_first : {q : Option Sign}
           → r ≡ None
           → IsSign (get_or text p 0 ∷ []) q
           → q ≡ None
           → FirstToken text p (Token.Broken p)
-      neither_first e one f = sign_bad signs-kind (answered e) (subst (IsSign (get_or text p 0 ∷ [])) f one)
+      neither_first e one f = sign_bad signs-kind (no_sign (answered e)) (no_sign (subst (IsSign (get_or text p 0 ∷ [])) f one))
 
   -- no sign begins with a byte of another kind
   pub other_bad : kind_of (get_or text p 0) ≡ Kinds.Other → FirstToken text p (Token.Broken p)

@@ -9,7 +9,7 @@ ghost use Rattle.tokeniser.specs.declared.kinds.Kind.TheVariants as Kind;
 
 use super::ends::end_of;
 use super::kinds::{Kind, in_comment, in_word, is_digit, kind_of};
-use super::signs::{pair, single};
+use super::signs::sign_of;
 use super::words::word_of;
 use text::Token;
 
@@ -98,13 +98,14 @@ fn sign_at(text: &[u8], at: usize) -> Token
     ensures { FirstToken text.now at result }
 {
     let first = text[at];
-    match pair(first, bits::byte_at(text, at + 1)) {
+    let second = bits::byte_at(text, at + 1);
+    match sign_of(&[first, second]) {
         Some(sign) => Token::Sign {
             at,
             end: at + 2,
             sign,
         },
-        None => match single(first) {
+        None => match sign_of(&[first]) {
             Some(sign) => Token::Sign {
                 at,
                 end: at + 1,

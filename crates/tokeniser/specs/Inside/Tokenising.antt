@@ -1,6 +1,6 @@
 -- What the tokeniser's functions promise each other. No caller relies on any of it.
 use Rattle.std.specs.Prelude.{ℕ, ◌+◌, ◌-◌, ◌≤◌, ◌<◌, ◌≡◌, Bool, true, false, not, ◌||◌, length, get_or, drop, eqb, Option, Some, None}
-use mathlib.Core.List.{List, [], ◌∷◌, Memᴰ}
+use mathlib.Core.List.{List, [], ◌∷◌}
 use Rattle.bits.specs.Byte.{is_digit, is_alphabetic}
 use Rattle.text.specs.Token.{quote, signs}
 use Rattle.text.specs.declared.Sign.{Sign}
@@ -8,7 +8,6 @@ use Rattle.text.specs.Tokens.{is_white, slash, line_feed, Blank}
 use Rattle.text.specs.First.{written, FirstToken}
 use Rattle.tokeniser.specs.declared.steps.Step.{Step}
 use Rattle.tokeniser.specs.declared.kinds.Kind.{Kind}
-use Rattle.tokeniser.specs.declared.kinds.Kind.TheVariants as Kind
 
 -- some of these lists has this byte first
 abbrev pub begins : List (List ℕ) → ℕ → Bool
@@ -48,7 +47,7 @@ Answers post test = (b : ℕ) (r : Bool) → post b r → r ≡ test b
 -- these bytes are this sign, or no sign
 abbrev pub IsSign : List ℕ → Option Sign → Type 0
 IsSign l (Some x) = l ≡ written x
-IsSign l None = ¬ Memᴰ l signs
+IsSign l None = (x : Sign) → ¬ (written x ≡ l)
 
 -- white space or a comment stands at this place, up to the next
 pub record Skips (text : List ℕ) (place next : ℕ) : Type 0 where

@@ -4,15 +4,15 @@ use Rattle.tokeniser.proofs.steps.sign_at.Goals as goal
 
 pub returns-in-Some : goal.returns-in-Some
 returns-in-Some c =
-    pair_first c.args.text.now c.args.at c.requires.0 c.requires.1 c.byte_at.ensures c.pair.ensures
+    pair_first c.args.text.now c.args.at c.requires.0 c.requires.1 c.byte_at-second.ensures c.sign_of.ensures
     _ c.in-Some.is
 
-pub returns-in-Some-single : goal.returns-in-Some-single
-returns-in-Some-single c =
-    single_first c.args.text.now c.args.at c.requires.0 c.requires.1 c.byte_at.ensures c.pair.ensures
-    _ c.in-None.is c.single.ensures c.in-Some-single.is
+pub returns-in-Some-sign_of : goal.returns-in-Some-sign_of
+returns-in-Some-sign_of c =
+    single_first c.args.text.now c.args.at c.requires.0 c.requires.1 c.byte_at-second.ensures c.sign_of.ensures
+    _ c.in-None.is c.sign_of-in-None.ensures c.in-Some-sign_of.is
 
-pub returns-in-None-single : goal.returns-in-None-single
-returns-in-None-single c =
-    neither_first c.args.text.now c.args.at c.requires.0 c.requires.1 c.byte_at.ensures c.pair.ensures
-    c.in-None.is c.single.ensures c.in-None-single.is
+pub returns-in-None-sign_of : goal.returns-in-None-sign_of
+returns-in-None-sign_of c =
+    neither_first c.args.text.now c.args.at c.requires.0 c.requires.1 c.byte_at-second.ensures c.sign_of.ensures
+    c.in-None.is c.sign_of-in-None.ensures c.in-None-sign_of.is
