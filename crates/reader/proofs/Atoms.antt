@@ -1,21 +1,22 @@
 -- What an atom's tokens say, the machine does with them: it takes the atom, or refuses where the first token stands that no atom has.
 use Prim.Native.Nat.{ℕ}
-use mathlib.Core.Path.{◌≡◌, refl, ap, ◌∙◌}
-use mathlib.Core.Bool.{Bool, true, false, not, ◌&&◌, true≢false}
+use mathlib.Core.Path.{◌≡◌, refl, ap}
+use mathlib.Core.Bool.{Bool, true, false, not, ◌&&◌}
 use mathlib.Core.List.{List, [], ◌∷◌}
-use lib.Dec.{leb}
+use lib.Dec.{T, leb}
 use denote.Enum.Declared.{tag_of}
 use types.Run.{OneOf, hit}
-use Rattle.text.specs.Token.{w}
-use Rattle.text.specs.First.{part, FirstToken}
+use Rattle.text.specs.Token.{w, sign}
+use Rattle.text.specs.First.{written, part, FirstToken}
 use Rattle.text.specs.declared.Word.{Word}
 use Rattle.text.specs.declared.Sign.{Sign}
 use Rattle.text.specs.declared.Token.{Token}
 use Rattle.text.specs.contracts.Sign as sign-type
-use Rattle.text.proofs.Once.{first_once}
 use Rattle.rule.specs.Tree as Tree
 use Rattle.rule.specs.Grammar as Grammar
 use Rattle.rule.specs.Limits.{in_form, value_from}
+use Rattle.rule.specs.Inside.Class.{Fixed, classify}
+use Rattle.rule.proofs.Machine.Follow.{unlike}
 use Rattle.rule.specs.Inside.Machine.{Totals, operand, read_test, counter_test, symbol_name, number}
 use Rattle.atoms.specs.Atom as Atom
 use Rattle.atoms.specs.Atom.{
@@ -46,8 +47,10 @@ use Rattle.atoms.specs.Atom.{
 }
 use Rattle.atoms.specs.Atom.{Read as AtomAnswer}
 use Rattle.atoms.proofs.Said.{but}
-use Rattle.reader.specs.Inside.Atoms.{behind, compared, is_sign, NoSign, Tests}
-use Rattle.reader.proofs.Front.{front_word, front_number, front_letter, front_sign}
+use Rattle.reader.specs.Inside.Atoms.{behind, compared, OpensNothing, Tests}
+use Rattle.reader.specs.declared.answers.Reader.{Reader}
+use Rattle.reader.proofs.Taken.{unlike_class}
+use Rattle.reader.proofs.Front.{class_of, front_word, front_number, front_letter, front_sign}
 use Rattle.reader.proofs.Missed.{Misses}
 use Rattle.reader.proofs.Tested.{test_missed, test_refuses, test_refuses_sign, test_breaks, test_on, sought_found, zero_found_lem}
 
@@ -76,13 +79,41 @@ module _ (text : List ℕ) (t : Totals) where
   word_missed n p q Word.Read h = absurd (h _ by_read)
   word_missed n p q Word.Other h = refl
 
-  test_missing : (n : ℕ) (k : Token) → is_sign k ≡ false → ((a : Tested) → ¬ IsTested k a) → Misses text t (operand n) k
-  test_missing n (Token.Word p q x) s h = word_missed n p q x h
-  test_missing n (Token.Number p q) s h = refl
-  test_missing n (Token.Letter p q b) s h = refl
-  test_missing n (Token.Sign p q x) s h = absurd (true≢false s)
-  test_missing n (Token.End p) s h = tt
-  test_missing n (Token.Broken p) s h = tt
+  sign_missed : (n p q : ℕ) (x : Sign)
+      → T (unlike Fixed.opens (classify (sign (written x))))
+      → T (unlike Fixed.not (classify (sign (written x))))
+      → Misses text t (operand n) (Token.Sign p q x)
+  sign_missed n p q Sign.Becomes opens not = refl
+  sign_missed n p q Sign.Equals opens not = refl
+  sign_missed n p q Sign.Differs opens not = refl
+  sign_missed n p q Sign.Not opens not = absurd not
+  sign_missed n p q Sign.And opens not = refl
+  sign_missed n p q Sign.Or opens not = refl
+  sign_missed n p q Sign.Increment opens not = refl
+  sign_missed n p q Sign.Decrement opens not = refl
+  sign_missed n p q Sign.Add opens not = refl
+  sign_missed n p q Sign.Subtract opens not = refl
+  sign_missed n p q Sign.Minus opens not = refl
+  sign_missed n p q Sign.OpenParen opens not = absurd opens
+  sign_missed n p q Sign.CloseParen opens not = refl
+  sign_missed n p q Sign.OpenBrace opens not = refl
+  sign_missed n p q Sign.CloseBrace opens not = refl
+  sign_missed n p q Sign.OpenBracket opens not = refl
+  sign_missed n p q Sign.CloseBracket opens not = refl
+  sign_missed n p q Sign.Comma opens not = refl
+  sign_missed n p q Sign.Semicolon opens not = refl
+
+  test_missing : (n : ℕ) (k : Token)
+      → T (unlike Fixed.opens (class_of text k))
+      → T (unlike Fixed.not (class_of text k))
+      → ((a : Tested) → ¬ IsTested k a)
+      → Misses text t (operand n) k
+  test_missing n (Token.Word p q x) opens not h = word_missed n p q x h
+  test_missing n (Token.Number p q) opens not h = refl
+  test_missing n (Token.Letter p q b) opens not h = refl
+  test_missing n (Token.Sign p q x) opens not h = sign_missed n p q x opens not
+  test_missing n (Token.End p) opens not h = tt
+  test_missing n (Token.Broken p) opens not h = tt
 
   mark_missed : (p q : ℕ) (x : Word) → ((a : Object) → ¬ IsObject (Token.Word p q x) a) → Misses text t symbol_name (Token.Word p q x)
   mark_missed p q Word.Alphabet h = refl
@@ -202,12 +233,17 @@ module _ {text : List ℕ} where
       by_cases (Token.Broken p) r f (other h) = test_refuses f (λ t. hit (but (3 ∷ []) 6) 5 tt) refl
 
 -- the whole atom
-pub atom_tests : {text : List ℕ} {from : ℕ} {r : AtomAnswer} → NoSign text from → AtomAt text from r → (n : ℕ) → Tests text from (λ ts. ts) (operand n) r
-atom_tests {text} {from} {r} none reads n =
+pub atom_tests : {r : Reader} {u : AtomAnswer} → OpensNothing r → AtomAt r.text.now r.at u → (n : ℕ) → Tests r.text.now r.at (λ ts. ts) (operand n) u
+atom_tests {r} {u} none reads n =
     let next = reads.right in
-    by_cases next.token r next.first (ap is_sign (first_once next.first none.first) ∙ none.none) next.says
+    by_cases next.token u next.first (unlike_class none.0 next.first) (unlike_class none.1 next.first) next.says
   where
-    by_cases : (k : Token) (r : AtomAnswer) → FirstToken text from k → is_sign k ≡ false → Atom.Case IsTested (TestedSays text) k r → Tests text from (λ ts. ts) (operand n) r
-    by_cases k r f s (stands (by_read {p = p}) second) = test_on (front_word f refl) _ (λ t. refl) (λ t. refl) (λ t. refl) (read_tests p second)
-    by_cases k r f s (stands (by_c {p = p}) second) = test_on (front_word f refl) _ (λ t. refl) (λ t. refl) (λ t. refl) (counter_tests p second)
-    by_cases k r f s (other h) = test_missed f (λ t. test_missing text t n k s h) refl
+    by_cases : (k : Token) (u : AtomAnswer)
+        → FirstToken r.text.now r.at k
+        → T (unlike Fixed.opens (class_of r.text.now k))
+        → T (unlike Fixed.not (class_of r.text.now k))
+        → Atom.Case IsTested (TestedSays r.text.now) k u
+        → Tests r.text.now r.at (λ ts. ts) (operand n) u
+    by_cases k u f opens not (stands (by_read {p = p}) second) = test_on (front_word f refl) _ (λ t. refl) (λ t. refl) (λ t. refl) (read_tests p second)
+    by_cases k u f opens not (stands (by_c {p = p}) second) = test_on (front_word f refl) _ (λ t. refl) (λ t. refl) (λ t. refl) (counter_tests p second)
+    by_cases k u f opens not (other h) = test_missed f (λ t. test_missing r.text.now t n k opens not h) refl

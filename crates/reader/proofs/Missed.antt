@@ -5,6 +5,7 @@ use mathlib.Core.Path.{◌≡◌, refl, sym, ap, subst}
 use mathlib.Core.Bool.{Bool, true, false, not}
 use mathlib.Core.Option.{Option, none, some}
 use mathlib.Core.List.{List, [], ◌∷◌, map}
+use Rattle.std.specs.Prelude.{Err}
 use lib.Dec.{T, T_not, eqb, eqb_refl}
 use mir.Facts.{or_no}
 use mir.Val.{has_key}
@@ -29,7 +30,6 @@ use Rattle.table.specs.declared.reason.Reason.TheVariants as Reason
 use Rattle.atoms.specs.Atom.{refusal_of}
 use Rattle.reader.specs.Inside.Answers.{spot, Stops, Answers}
 use Rattle.table.specs.declared.reason.Refusal.{Refusal}
-use Rattle.reader.specs.declared.answers.Read.TheVariants.{Refused}
 use Rattle.atoms.proofs.Arms.{passing, left_passes, values_left, value_left}
 use Rattle.reader.proofs.Front.{named, class_of, front_word, front_number, front_letter, front_sign}
 use Rattle.reader.proofs.Moves.{misses, under_stops}
@@ -153,12 +153,12 @@ module _ {text : List ℕ} {from : ℕ} {x : Expected} {t : Totals} where
       }
 
   module _ {w y : Stack} {b : List ℕ} {k : Token} {r : Refusal} (f : FirstToken text from k) where
-    pub refused : r ≡ refusal_of k → Misses text t x k → Answers text (spot from (x ∷ w) t) y b (Refused r)
+    pub refused : r ≡ refusal_of k → Misses text t x k → Answers text (spot from (x ∷ w) t) y b (Err r)
     refused right h = record { right = rw right (under_stops w (missed k f h)) }
 
     pub refuses : OneOf (sorts_left t x k) (tag_of token-type.the_type k)
         → r ≡ refusal_of k
-        → Answers text (spot from (x ∷ w) t) y b (Refused r)
+        → Answers text (spot from (x ∷ w) t) y b (Err r)
     refuses e right = refused right (missed_sort text x t k e)
 
   module _ {w y : Stack} {b : List ℕ} {k : Token} {r : Refusal} {p q : ℕ} (f : FirstToken text from k) where
@@ -166,12 +166,12 @@ module _ {text : List ℕ} {from : ℕ} {x : Expected} {t : Totals} where
         → k ≡ Token.Sign p q s
         → OneOf (values_left sign-type.enum (misses_sign t x p)) (tag_of sign-type.the_type s)
         → r ≡ record { reason = Reason.Misplaced; place = p }
-        → Answers text (spot from (x ∷ w) t) y b (Refused r)
+        → Answers text (spot from (x ∷ w) t) y b (Err r)
     refuses_sign {s} e h right = refused (subst (λ (u : Token). FirstToken text from u) e f) right (missed_sign text x t p q s h)
 
     pub refuses_word : {v : Word}
         → k ≡ Token.Word p q v
         → OneOf (values_left word-type.enum (misses_word t x p (part text p q))) (tag_of word-type.the_type v)
         → r ≡ record { reason = Reason.Misplaced; place = p }
-        → Answers text (spot from (x ∷ w) t) y b (Refused r)
+        → Answers text (spot from (x ∷ w) t) y b (Err r)
     refuses_word {v} e h right = refused (subst (λ (u : Token). FirstToken text from u) e f) right (missed_word text x t p q v h)
