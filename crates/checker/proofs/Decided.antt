@@ -12,16 +12,17 @@ use Rattle.bits.specs.Bit.{bit, Bytes}
 use Rattle.bits.specs.Byte.{is_letter}
 use Rattle.table.specs.Form.{letters_place, either_counter, to_right, most_change, accepting_place, accepting_bytes, rows_tag, rows_place}
 use Rattle.table.specs.Table.{Row, Table, Accepting}
-use Rattle.table.specs.WellFormed.{SymbolCode, RowInRange, InRange, IsImage}
+use Rattle.table.specs.WellFormed.{SymbolCode, RowInRange, InRange, IsImage, WellFormed}
 use Rattle.table.specs.Fields.{letters_of, letter_of, row_of, row_count, table_of}
 use Rattle.bits.specs.Tells.{Tells}
 use Rattle.table.specs.Inside.Right.{HeadRight, MiddleRight, TailRight, LetterRight}
 use Rattle.table.specs.RowCode.{row_is}
 use Rattle.table.specs.declared.Row as Code
+use Rattle.bits.proofs.Bits.{bit-zero_or_one}
 use Rattle.bits.proofs.Telling.{tells_as}
 use Rattle.table.proofs.Reading.{alphabet_length, part_bytes, accept_past}
 use Rattle.checker.proofs.Framing.{framed_image}
-use Rattle.table.proofs.Encoded.{image_table, image_tail}
+use Rattle.table.proofs.Encoded.{image_table, image_head, image_middle, image_tail}
 use Rattle.table.proofs.RowList.{rows_length_lem, rows_in_lem, rows_number, place_low}
 use Rattle.table.proofs.Places.{place_of, member_at}
 use Rattle.checker.proofs.Different.{nodup_of, of_nodup}
@@ -83,10 +84,13 @@ module _ (image : List ℕ) (long : letters_of image + letters_place ≤ length 
 
 -- a state past the sixteen bytes does not accept
 pub others_all
-    : (image : List ℕ) {s first : ℕ} → 128 ≤ s → first ≡ (table_of image).states
-    → ((j : ℕ) → j < s → first ≤ j → bit (table_of image).accepting j ≡ 0) → OtherBits image
-others_all image {s} end states passed j past =
-    elim (dec_lt j s) [ yes low ↦ passed j low (rw states past) | no high ↦ accept_past image j (omega arith) ]
+    : (image : List ℕ) {first : ℕ} → first ≡ (table_of image).states
+    → ((s : ℕ) → s < 128 → first ≤ s → ¬ Accepting (table_of image) s) → OtherBits image
+others_all image states passed s past =
+    elim (dec_lt s 128) [
+      | yes low ↦ omega (arith, passed s low (rw states past), bit-zero_or_one (table_of image).accepting s)
+      | no high ↦ accept_past image s (omega arith)
+    ]
 
 -- the ranges of states, and the accept bytes
 module _ (image : List ℕ) where
@@ -165,3 +169,26 @@ module _ (image : List ℕ) where
 
     pub image_rows : RowsRight image
     image_rows i low = image_says.in_range.rows (row_of image i) (rows_in_lem image i low)
+
+-- all parts are right
+pub record PartsRight (image : List ℕ) : Type 0 where
+  pub head : HeadRight image
+  pub middle : MiddleRight image
+  pub tail : TailRight image
+  pub letters : LettersRight image
+  pub others : OtherBits image
+  pub rows : RowsRight image
+
+-- and that is what it is to be well formed
+pub parts_told : {told : Bool} (image : List ℕ) → Bytes image → Tells told (PartsRight image) → Tells told (WellFormed image)
+parts_told image bytes tells =
+    tells_as tells
+    (λ p. (table_of image, parts_image image bytes p.head p.middle p.tail p.letters p.others p.rows))
+    (λ w. record {
+      head = image_head w.1;
+      middle = image_middle w.1;
+      tail = image_tail w.1;
+      letters = image_letters image w.1;
+      others = image_others image w.1;
+      rows = image_rows image w.1;
+    })

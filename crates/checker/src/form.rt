@@ -25,52 +25,41 @@ fn head_right(image: &[u8]) -> bool
     ensures { Tells result (HeadRight image.now) }
 {
     let k = letter_count(image);
-    if !field_at(image, 0, 1, 1) {
-        return false;
-    }
-    if bits::byte_at(image, form::EDITION_PLACE) != form::FIRST_EDITION {
-        return false;
-    }
-    if !field_at(image, form::ALPHABET_TAG, 2, k) {
-        return false;
-    }
-    1 <= k && k <= 16
+    field_at(image, 0, 1, 1)
+        && bits::byte_at(image, form::EDITION_PLACE) == form::FIRST_EDITION
+        && field_at(image, form::ALPHABET_TAG, 2, k)
+        && 1 <= k
+        && k <= 16
 }
 
 // Tags 3 and 4: 0 or 1, and 1 to 128 states.
+#[tactic(auto, unfolding(table::specs::Fields::table_of))]
 fn middle_right(image: &[u8]) -> bool
     requires { letters_of image.now ≤ 16 }
     ensures { Tells result (MiddleRight image.now) }
 {
     let k = letter_count(image);
     let states = state_count(image);
-    if !field_at(image, k + form::DECR_ON_ZERO_TAG, 3, 1) {
-        return false;
-    }
-    if 1 < bits::byte_at(image, k + form::DECR_ON_ZERO_PLACE) {
-        return false;
-    }
-    if !field_at(image, k + form::STATES_TAG, 4, 2) {
-        return false;
-    }
-    1 <= states && states <= 128
+    field_at(image, k + form::DECR_ON_ZERO_TAG, 3, 1)
+        && bits::byte_at(image, k + form::DECR_ON_ZERO_PLACE) <= 1
+        && field_at(image, k + form::STATES_TAG, 4, 2)
+        && 1 <= states
+        && states <= 128
 }
 
 // Tags 5 and 6: 16 bytes, then at most 1,024 whole rows, and nothing after them.
+#[tactic(auto, using(crate::proofs::Framing::tail_end, crate::proofs::Framing::end_tail, crate::proofs::Framing::end_low))]
 fn tail_right(image: &[u8]) -> bool
     requires { letters_of image.now ≤ 16 }
     ensures { Tells result (TailRight image.now) }
 {
     let k = letter_count(image);
     let rows = row_count(image);
-    if 1024 < rows {
-        return false;
-    }
-    if !field_at(image, k + form::ACCEPTING_TAG, 5, form::ACCEPTING_BYTES) {
-        return false;
-    }
     let many = rows_bytes(image);
-    field_at(image, k + form::ROWS_TAG, 6, many) && image.len() == k + form::ROWS_PLACE + many
+    rows <= 1024
+        && field_at(image, k + form::ACCEPTING_TAG, 5, form::ACCEPTING_BYTES)
+        && field_at(image, k + form::ROWS_TAG, 6, many)
+        && image.len() == k + form::ROWS_PLACE + many
 }
 
 // Whether letter c differs from each before it.
@@ -78,12 +67,10 @@ fn fresh(image: &[u8], c: usize) -> bool
     ensures { Tells result ((d : ℕ) → d < c → letter_of image.now d ≡ letter_of image.now c → ⊥) }
 {
     let letter = letter_at(image, c);
-    let mut d = 0;
-    while d < c {
+    for d in 0..c {
         if letter_at(image, d) == letter {
             return false;
         }
-        d += 1;
     }
     true
 }
@@ -99,27 +86,17 @@ fn letter_right(image: &[u8], c: usize) -> bool
 fn letters_right(image: &[u8]) -> bool
     ensures { Tells result ((c : ℕ) → c < letters_of image.now → LetterRight image.now c) }
 {
-    let k = letter_count(image);
-    let mut c = 0;
-    while c < k {
-        if !letter_right(image, c) {
-            return false;
-        }
-        c += 1;
-    }
-    true
+    (0..letter_count(image)).all(|c| letter_right(image, c))
 }
 
 // Whether no state that does not exist accepts.
 fn no_other_bit(image: &[u8]) -> bool
     ensures { Tells result ((s : ℕ) → (table_of image.now).states ≤ s → bit (table_of image.now).accepting s ≡ 0) }
 {
-    let mut s = state_count(image);
-    while s < 128 {
-        if accepts(image, s) != 0 {
+    for s in state_count(image)..128 {
+        if accepts(image, s) {
             return false;
         }
-        s += 1;
     }
     true
 }
@@ -128,24 +105,17 @@ fn no_other_bit(image: &[u8]) -> bool
 fn symbol_right(symbol: u8, k: usize) -> bool
     ensures { Tells result (SymbolCode k symbol) }
 {
-    if (symbol as usize) < k {
-        true
-    } else {
-        form::LEFT_MARK <= symbol && symbol <= form::ANY_SYMBOL
-    }
+    (symbol as usize) < k || form::LEFT_MARK <= symbol && symbol <= form::ANY_SYMBOL
 }
 
 // Whether a row's codes are in their ranges, with k letters.
 fn codes_right(row: Row, k: usize) -> bool
     ensures { Tells result (SymbolCode k row.symbol × (row.test ≤ either_counter) × (row.motion ≤ to_right) × (row.change ≤ most_change)) }
 {
-    if !symbol_right(row.symbol, k) {
-        return false;
-    }
-    if form::EITHER_COUNTER < row.test {
-        return false;
-    }
-    row.motion <= form::TO_RIGHT && row.change <= form::MOST_CHANGE
+    symbol_right(row.symbol, k)
+        && row.test <= form::EITHER_COUNTER
+        && row.motion <= form::TO_RIGHT
+        && row.change <= form::MOST_CHANGE
 }
 
 // Whether a row may lead from one state to another: both exist, and the first does not accept.
@@ -153,10 +123,7 @@ fn states_right(image: &[u8], from: usize, to: usize) -> bool
     ensures { Tells result ((from < (table_of image.now).states) × (Accepting (table_of image.now) from → ⊥) × (to < (table_of image.now).states)) }
 {
     let states = state_count(image);
-    if states <= from {
-        return false;
-    }
-    accepts(image, from) != 1 && to < states
+    from < states && !accepts(image, from) && to < states
 }
 
 // Whether row i is in range. (A letter of the alphabet is one that the image is long enough for.)
@@ -173,13 +140,10 @@ fn rows_right(image: &[u8]) -> bool
     requires { letters_of image.now + letters_place ≤ length image.now }
     ensures { Tells result ((i : ℕ) → i < row_count image.now → RowInRange (table_of image.now) (row_of image.now i)) }
 {
-    let rows = row_count(image);
-    let mut i = 0;
-    while i < rows {
+    for i in 0..row_count(image) {
         if !row_right(image, i) {
             return false;
         }
-        i += 1;
     }
     true
 }
@@ -188,17 +152,10 @@ fn rows_right(image: &[u8]) -> bool
 pub fn well_formed(image: &[u8]) -> bool
     ensures { Tells result (WellFormed image.now) }
 {
-    if !head_right(image) {
-        return false;
-    }
-    if !middle_right(image) {
-        return false;
-    }
-    if !tail_right(image) {
-        return false;
-    }
-    if !letters_right(image) {
-        return false;
-    }
-    no_other_bit(image) && rows_right(image)
+    head_right(image)
+        && middle_right(image)
+        && tail_right(image)
+        && letters_right(image)
+        && no_other_bit(image)
+        && rows_right(image)
 }

@@ -3,15 +3,21 @@
 
 mod form;
 
-ghost use Rattle.checker.specs.Check.{Checks};
+ghost use Rattle.checker.specs.Check.{Answers};
 
-// 1 for a well-formed image, else refusal 21 at place 0.
-pub fn check(image: &[u8]) -> u64
-    ensures { Checks image.now result }
+use table::reason::{Reason, Refusal};
+
+// Nothing to say of a well-formed image, else refusal 21 at place 0.
+pub fn check(image: &[u8]) -> Result<(), Refusal>
+    ensures { Answers image.now result }
 {
+    let malformed = Refusal {
+        reason: Reason::Malformed,
+        place: 0,
+    };
     if form::well_formed(image) {
-        1
+        Ok(())
     } else {
-        21000000
+        Err(malformed)
     }
 }

@@ -1,44 +1,65 @@
 -- The judge's answer from its parts: a refusal with the marks as they were, or a verdict with its count and marks.
 use Prim.Native.Nat.{ℕ}
-use mathlib.Core.Path.{◌≡◌}
+use mathlib.Core.Path.{◌≡◌, refl}
+use mathlib.Core.Logic.{inl}
 use mathlib.Core.List.{List}
+use lib.ListN.{length}
+use Rattle.std.specs.Prelude.{◌≢◌, Ok, Err}
 use Rattle.table.specs.Fields.{table_of}
+use Rattle.table.specs.Refusal.{First, number_of}
+use Rattle.table.specs.declared.reason.Reason.TheVariants.{MarkBytes}
+use Rattle.table.specs.declared.reason.Refusal.{Refusal}
 use Rattle.table.specs.declared.source.Source.TheVariants.{Image}
+use Rattle.table.proofs.Refusal.{first_front, first_behind}
 use Rattle.table.proofs.Showing.{image_sources}
-use Rattle.judgement.specs.Judge.{Judgeable, judged, refused, answer_number, Judges}
-use Rattle.judge.specs.Inside.Inner.{RefusedAs, Undecided, Decided}
+use Rattle.judgement.specs.declared.answer.Judged.{Judged}
+use Rattle.judgement.specs.Marks.{mark_bytes}
+use Rattle.judgement.specs.Reasons.{input_reasons}
+use Rattle.judgement.specs.Judge.{marks_reason, Answers}
+use Rattle.judgement.proofs.Reasons.{input_none}
+use Rattle.refusing.specs.Asking.{Asks}
+use Rattle.judge.specs.Inside.Inner.{Undecided, Decided}
 
 module _ {image word : List ℕ} {limit : ℕ} {before after : List ℕ} where
-  -- a refusal is a right answer, where the marks are as they were
-  pub judges_refused : {r : ℕ} → RefusedAs image word limit before r → after ≡ before → Judges image word limit before after r
-  unfolding answer_number
-  judges_refused {r} refused' same = record {
-    answer = refused refused'.number refused'.place;
-    right = record { first = refused'.first; unchanged = same };
-    number = refused'.is;
-  }
+  -- what is refused for its image, word or limit
+  pub refused_input
+      : {refusal : Refusal} → Asks image word limit (Err refusal) → after ≡ before → Answers image word limit before after (Err refusal)
+  refused_input {refusal} asks same =
+      let first = first_front (number_of refusal.reason) refusal.place (input_reasons image word limit) (marks_reason before) asks.right in
+      record { right = record { first = first; unchanged = same } }
 
-  -- and so is a verdict with its count
-  pub judges_decided
-      : {r : ℕ} → Judgeable (table_of image) image word limit before → Decided (table_of image) word limit after r → Judges image word limit before after r
-  unfolding answer_number
-  judges_decided {r} judgeable decided = record {
-    answer = judged decided.verdict decided.many;
+  -- what is admitted is refused for its marks
+  pub refused_marks
+      : Asks image word limit (Ok tt) → length before ≢ mark_bytes → after ≡ before
+      → Answers image word limit before after (Err (record { reason = MarkBytes; place = 0 }))
+  unfolding First
+  refused_marks asks room same =
+      let first =
+      first_behind 25 0 (input_reasons image word limit) (marks_reason before) (input_none image word limit asks.right) (inl (refl, (refl, room))) in
+      record { right = record { first = first; unchanged = same } }
+
+  -- or judged
+  pub decided_right
+      : {answer : Judged} → Asks image word limit (Ok tt) → length before ≡ mark_bytes → Decided (table_of image) word limit after answer
+      → Answers image word limit before after (Ok answer)
+  decided_right asks room decided = record {
     right = record {
       table = table_of image;
-      judgeable = judgeable;
+      judgeable = record { admitted = asks.right; room = room };
       verdict = decided.right;
       count = decided.count;
       marks = decided.marks;
     };
-    number = decided.number;
   }
 
 -- what is judged is what is searched
-pub judgeable_undecided
-    : {image word : List ℕ} {limit : ℕ} {before : List ℕ} → Judgeable (table_of image) image word limit before → Undecided (table_of image) image Image word limit before
-judgeable_undecided j = record {
-  ready = record { range = j.admitted.is_image.in_range; short = j.admitted.short; low = j.admitted.low };
-  sources = image_sources j.admitted.is_image;
-  room = j.room;
-}
+pub admitted_undecided
+    : {image word : List ℕ} {limit : ℕ} {before : List ℕ} → Asks image word limit (Ok tt) → length before ≡ mark_bytes
+    → Undecided (table_of image) image Image word limit before
+admitted_undecided asks room =
+    let a = asks.right in
+    record {
+      ready = record { range = a.is_image.in_range; short = a.short; low = a.low };
+      sources = image_sources a.is_image;
+      room = room;
+    }

@@ -1,5 +1,5 @@
 -- What a search that is over has found: the marks, the verdict and the count.
-use Prim.Native.Nat.{ℕ, ◌+◌, ◌*◌, ◌/◌, ◌≤◌, ◌<◌}
+use Prim.Native.Nat.{ℕ, ◌+◌, ◌/◌, ◌≤◌, ◌<◌}
 use native.Mathlib.Nat.{zero-div}
 use native.Mathlib.Omega.{arith}
 use mathlib.Core.Path.{◌≡◌, refl, sym, ◌∙◌, subst}
@@ -17,7 +17,8 @@ use Rattle.bits.specs.Tells.{Tells}
 use Rattle.table.specs.declared.source.Source.{Source}
 use Rattle.machine.specs.Step.{Situation, Takes, Step}
 use Rattle.machine.specs.Run.{Reach, begins, goes, Accepts, Passes}
-use Rattle.judgement.specs.Verdict.{verdict_number, IsVerdict}
+use Rattle.judgement.specs.declared.answer.Verdict.{Verdict}
+use Rattle.judgement.specs.Verdict.{IsVerdict}
 use Rattle.judgement.specs.Marks.{mark_bytes, first_half, HasMark, mark_of, Marks}
 use Rattle.judge.specs.Inside.Search.{situations, situation_of, Searched, MarkedAccepts}
 use Rattle.judge.specs.Inside.Inner.{verdict_of, Unmarked, Undecided, Decided}
@@ -123,13 +124,7 @@ module _ {t : Table} {w : List ℕ} {L : ℕ} {m : List ℕ} {over : Bool} (foun
 
   -- the verdict, the count and the marks
   pub found_decided
-      : {yes : Bool} {number count : ℕ} → Tells yes (MarkedAccepts t m) → Ones (take mark_bytes (take first_half m)) count → Bytes m → number ≡ verdict_number (verdict_of yes over)
-      → Decided t w L m (number * 1000000 + count)
-  found_decided {yes} {number} {count} tells ones bytes is = record {
-    verdict = verdict_of yes over;
-    many = count;
-    right = found_verdict yes over tells found;
-    count = found_count found bytes (half_whole ones);
-    marks = found_marks found bytes;
-    number = rw is refl;
-  }
+      : {yes : Bool} {count : ℕ} {verdict : Verdict} → Tells yes (MarkedAccepts t m) → Ones (take mark_bytes (take first_half m)) count → Bytes m
+      → verdict ≡ verdict_of yes over → Decided t w L m (record { verdict = verdict; count = count })
+  found_decided {yes} tells ones bytes is =
+      rw is (record { right = found_verdict yes over tells found; count = found_count found bytes (half_whole ones); marks = found_marks found bytes })

@@ -8,4 +8,3 @@ pub mod Picking
 pub mod Found
 pub mod Answers
 pub mod Deciding
-pub mod Refusing

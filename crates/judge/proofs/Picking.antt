@@ -3,12 +3,13 @@ use Prim.Native.Nat.{ℕ, ◌<◌}
 use native.Mathlib.Omega.{arith}
 use mathlib.Core.Path.{◌≡◌}
 use mathlib.Core.Bool.{Bool, false}
+use Rattle.std.specs.Prelude.{None}
 use mathlib.Core.List.{List}
 use Rattle.table.specs.Table.{Table}
 use Rattle.table.specs.Inside.Showing.{Sources}
 use Rattle.table.specs.declared.source.Source.{Source}
-use Rattle.judge.specs.Inside.Search.{situations, marked, Between, Searched}
-use Rattle.judge.specs.Inside.Inner.{Picked, Waiting, Expanded, Unmarked}
+use Rattle.judge.specs.Inside.Search.{marked, Between, Searched}
+use Rattle.judge.specs.Inside.Inner.{Pending, Picked, Waiting, Expanded, Unmarked}
 use Rattle.judge.proofs.Searching.{search_begins}
 use Rattle.judge.proofs.Left.{left, left_falls}
 
@@ -18,12 +19,8 @@ module _ {t : Table} {rows : List ℕ} {source : Source} {w : List ℕ} {L : ℕ
   begins-between unmarked is = rw is (search_begins m unmarked.ready unmarked.room unmarked.empty)
 
   -- a situation that is picked waits
-  pub picked_waiting
-      : {over : Bool} {i : ℕ} → Sources t source rows → Between t w L m over → Picked m i → ¬ (i ≡ situations)
-      → Waiting t rows source w L m over i
-  picked_waiting {i = i} sources between picked some =
-      let low : i < situations = omega (arith, picked.guess.high) in
-      record { sources = sources; between = between; low = low; waits = picked.guess.set low }
+  pub picked_waiting : {over : Bool} {i : ℕ} → Sources t source rows → Between t w L m over → Pending m i → Waiting t rows source w L m over i
+  picked_waiting sources between picked = record { sources = sources; between = between; low = picked.low; waits = picked.waits }
 
   -- fewer are left
   pub expand_falls : {m' : List ℕ} {over past : Bool} {i : ℕ} → Waiting t rows source w L m over i → Expanded t w L m m' past i → left m' < left m
@@ -31,5 +28,5 @@ module _ {t : Table} {rows : List ℕ} {source : Source} {w : List ℕ} {L : ℕ
       left_falls m m' done.keeps i waiting.low (λ f. omega (arith, f.not_pending, waiting.waits)) done.done
 
 -- where none is picked, none waits
-pub picked_none : {t : Table} {w : List ℕ} {L : ℕ} {m : List ℕ} {over : Bool} {i : ℕ} → Between t w L m over → Picked m i → i ≡ situations → Searched t w L m over
-picked_none between picked none = record { between = between; rest = picked.none (omega arith) }
+pub picked_none : {t : Table} {w : List ℕ} {L : ℕ} {m : List ℕ} {over : Bool} → Between t w L m over → Picked m None → Searched t w L m over
+picked_none between picked = record { between = between; rest = picked }

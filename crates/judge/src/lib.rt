@@ -4,55 +4,30 @@
 mod pending;
 mod search;
 
-ghost use Rattle.std.specs.Prelude.{◌≡◌, ◌<◌, length};
+ghost use Rattle.std.specs.Prelude.{◌≡◌, ◌<◌};
 ghost use Rattle.table.specs.Fields.{table_of};
 ghost use Rattle.bits.specs.Tells.{Tells};
-ghost use Rattle.judgement.specs.Marks.{mark_bytes};
-ghost use Rattle.judgement.specs.Verdict.{verdict_number};
-ghost use Rattle.judgement.specs.Judge.{Judges};
-ghost use Rattle.judge.specs.Inside.Inner.{AcceptsIn, verdict_of, Undecided, Decided, RoomRefusing, Refusing};
-ghost use Rattle.judge.specs.Inside.Search.{MarkedAccepts};
+ghost use Rattle.judgement.specs.Judge.{Answers};
+ghost use Rattle.judge.specs.Inside.Inner.{AcceptsIn, verdict_of, Undecided, Decided};
+ghost use Rattle.judge.specs.Inside.Search.{Searched, MarkedAccepts};
 
-use pending::first_set;
-use refusing::Asked;
+use judgement::answer::{Judged, Verdict};
+use pending::{MARK_BYTES, first_set};
+use search::Search;
+use table::reason::{Reason, Refusal};
 use table::source::Source;
 
-// The refusal, or 0 for what is judged.
-fn refused(image: &[u8], word: &[u8], limit: u64, marks: &[u8]) -> u64
-    ensures { Refusing image.now word.now limit marks.now result }
-{
-    match refusing::first_reason(image, word, limit) {
-        Asked::Refused { number, place } => number * 1000000 + place,
-        Asked::Admitted => room_refused(marks),
-    }
-}
-
-// The refusal of a mark buffer, or 0 for one that has the right length.
-fn room_refused(marks: &[u8]) -> u64
-    ensures { RoomRefusing marks.now result }
-{
-    if marks.len() != 65536 {
-        return 25000000;
-    }
-    0
-}
-
 // Whether a state accepts and a situation in it is marked.
-fn accepts_in(image: &[u8], marks: &[u8], state: usize) -> bool
-    requires { (state < 128) × (length marks.now ≡ mark_bytes) }
+fn accepts_in(image: &[u8], marks: &[u8; MARK_BYTES], state: usize) -> bool
+    requires { state < 128 }
     ensures { Tells result (AcceptsIn (table_of image.now) marks.now state) }
 {
-    if fields::accepts(image, state) != 1 {
-        return false;
-    }
     let at = state * 256;
-    let end = at + 256;
-    first_set(marks, at, end) < end * 8
+    fields::accepts(image, state) && first_set(marks, at, at + 256).is_some()
 }
 
 // Whether a marked situation accepts.
-fn accepted(image: &[u8], marks: &[u8]) -> bool
-    requires { length marks.now ≡ mark_bytes }
+fn accepted(image: &[u8], marks: &[u8; MARK_BYTES]) -> bool
     ensures { Tells result (MarkedAccepts (table_of image.now) marks.now) }
 {
     for state in 0usize..128 {
@@ -63,42 +38,59 @@ fn accepted(image: &[u8], marks: &[u8]) -> bool
     false
 }
 
-// The verdict's number: whether a run accepts, and else whether one met the limit.
-fn verdict_number(yes: bool, over: bool) -> u64
-    ensures { result ≡ verdict_number (verdict_of yes over) }
+// The verdict: whether a run accepts, and else whether one met the limit.
+#[tactic(auto, unfolding(crate::specs::Inside::Inner::verdict_of))]
+fn verdict(yes: bool, over: bool) -> Verdict
+    ensures { result ≡ verdict_of yes over }
 {
-    if yes {
-        return 1;
+    match (yes, over) {
+        (true, _) => Verdict::Yes,
+        (false, true) => Verdict::LimitMet,
+        (false, false) => Verdict::No,
     }
-    if over { 3 } else { 2 }
+}
+
+// The verdict and the count that the marks show after a search.
+fn shown(search: &Search, marks: &[u8; MARK_BYTES], over: bool) -> Judged
+    requires { Searched (table_of search.now.image.now) search.now.word.now search.now.limit marks.now over }
+    ensures { Decided (table_of search.now.image.now) search.now.word.now search.now.limit marks.now result }
+{
+    let yes = accepted(search.image, marks);
+    Judged {
+        verdict: verdict(yes, over),
+        count: ones::count_ones(&marks[..MARK_BYTES / 2]),
+    }
 }
 
 // The verdict and the count on what is judged, by the rows of a source.
-fn decide(
-    image: &[u8],
-    rows: &[u8],
-    source: Source,
-    word: &[u8],
-    limit: usize,
-    marks: &mut [u8],
-) -> u64
-    requires { Undecided (table_of image.now) rows.now source word.now limit marks.old }
-    ensures { Decided (table_of image.now) word.now limit marks.new result }
+fn decide(search: &Search, marks: &mut [u8; MARK_BYTES]) -> Judged
+    requires { Undecided (table_of search.now.image.now) search.now.rows.now search.now.source search.now.word.now search.now.limit marks.old }
+    ensures { Decided (table_of search.now.image.now) search.now.word.now search.now.limit marks.new result }
 {
     bits::clear(marks);
-    let over = search::search(image, rows, source, word, limit, marks);
-    let yes = accepted(image, marks);
-    let count = ones::count_ones(&marks[..32768]);
-    verdict_number(yes, over) * 1000000 + count as u64
+    let over = search.run(marks);
+    shown(search, marks, over)
 }
 
 // Judges a word by a table's image, within a limit, and leaves what is reached in the marks.
-pub fn judge(image: &[u8], word: &[u8], limit: u64, marks: &mut [u8]) -> u64
-    ensures { Judges image.now word.now limit marks.old marks.new result }
+pub fn judge(image: &[u8], word: &[u8], limit: u64, marks: &mut [u8]) -> Result<Judged, Refusal>
+    ensures { Answers image.now word.now limit marks.old marks.new result }
 {
-    let refusal = refused(image, word, limit, marks);
-    if refusal != 0 {
-        return refusal;
+    refusing::first_reason(image, word, limit)?;
+    match marks.as_mut_array::<MARK_BYTES>() {
+        None => Err(Refusal {
+            reason: Reason::MarkBytes,
+            place: 0,
+        }),
+        Some(marks) => {
+            let search = Search {
+                image,
+                rows: image,
+                source: Source::Image,
+                word,
+                limit: limit as usize,
+            };
+            Ok(decide(&search, marks))
+        }
     }
-    decide(image, image, Source::Image, word, limit as usize, marks)
 }

@@ -7,7 +7,7 @@ ghost use Rattle.machine.specs.Step.{symbol_fits, counter_fits};
 ghost use Rattle.judge.specs.Inside.Search.{Searched};
 ghost use Rattle.judge.specs.Inside.Inner.{RowHere, RowLeaves, RowFollowed, Waiting, Expanded, Unmarked};
 
-use super::pending::{SITUATIONS, mark, pick};
+use super::pending::{Hints, MARK_BYTES, SITUATIONS};
 use cells::Symbol;
 use machine::Outcome;
 use rows::rows_of;
@@ -17,125 +17,110 @@ use table::source::{Range, Source};
 fn suits(image: &[u8], symbol: u8, test: u8, seen: Symbol, counter: usize) -> bool
     ensures { result ≡ (symbol_fits (table_of image.now).alphabet symbol (symbol_is seen) && counter_fits test counter) }
 {
-    if machine::counter_fits(test, counter) {
-        return machine::symbol_fits(image, symbol, seen);
-    }
-    false
+    machine::counter_fits(test, counter) && machine::symbol_fits(image, symbol, seen)
 }
 
-// Follows the row that stands here and leaves the state of situation i, if it fits what is seen there: what it leads to within the limit
-// is marked. The answer is whether a step above the limit was met, now or before.
-fn follow(
-    image: &[u8],
-    rows: &[u8],
-    word: &[u8],
-    limit: usize,
+// Row j of those that a range shows for situation i: it stands at this place, and in the situation this is seen.
+#[derive(Clone, Copy)]
+struct Shown {
     i: usize,
+    seen: Symbol,
     range: Range,
     j: usize,
     at: usize,
-    seen: Symbol,
-    over: bool,
-    marks: &mut [u8],
-    hints: &mut [u64; 33],
-) -> bool
-    requires { RowLeaves (table_of image.now) rows.now word.now limit marks.old over i range j at (symbol_is seen) }
-    ensures { RowFollowed (table_of image.now) rows.now word.now limit marks.old marks.new result i range j }
-{
-    let row = rows::row_here(rows, at);
-    if !suits(image, row.symbol, row.test, seen, i % 32) {
-        return over;
-    }
-    let to = row.to;
-    let outcome = machine::step(image, word, row, i / 32 % 64, i % 32, limit);
-    match outcome {
-        Outcome::Goes { cell, counter } => {
-            mark((to * 64 + cell) * 32 + counter, marks, hints);
-            over
-        }
-        Outcome::Blocked => over,
-        Outcome::OverLimit => true,
-    }
 }
 
-// Follows row j of those that are shown for situation i, which stands here, if it leaves its state: of an image most rows do not.
-fn visit(
-    image: &[u8],
-    rows: &[u8],
-    word: &[u8],
-    limit: usize,
-    i: usize,
-    range: Range,
-    j: usize,
-    at: usize,
-    seen: Symbol,
-    over: bool,
-    marks: &mut [u8],
-    hints: &mut [u64; 33],
-) -> bool
-    requires { RowHere (table_of image.now) rows.now word.now limit marks.old over i range j at (symbol_is seen) }
-    ensures { RowFollowed (table_of image.now) rows.now word.now limit marks.old marks.new result i range j }
-{
-    if rows::leaves(rows, at, i / 32 / 64) {
-        return follow(
-            image, rows, word, limit, i, range, j, at, seen, over, marks, hints,
-        );
-    }
-    over
+// What is searched: a table by its image, by the rows of a source, with a word and a limit.
+#[derive(Clone, Copy)]
+pub struct Search<'a> {
+    pub image: &'a [u8],
+    pub rows: &'a [u8],
+    pub source: Source,
+    pub word: &'a [u8],
+    pub limit: usize,
 }
 
-// Follows every row that a source shows for situation i, which is pending.
-fn expand(
-    image: &[u8],
-    rows: &[u8],
-    source: Source,
-    word: &[u8],
-    limit: usize,
-    i: usize,
-    over: bool,
-    marks: &mut [u8],
-    hints: &mut [u64; 33],
-) -> bool
-    requires { Waiting (table_of image.now) rows.now source word.now limit marks.old over i }
-    ensures { Expanded (table_of image.now) word.now limit marks.old marks.new result i }
-{
-    bits::clear_bit(marks, i + SITUATIONS);
-    let range = rows_of(source, rows, i / 32 / 64);
-    let many = range.many;
-    let apart = range.apart;
-    let symbol = cells::head::seen(word, i / 32 % 64);
-    let mut at = range.first;
-    let mut past = over;
-    for j in 0..many {
-        past = visit(
-            image, rows, word, limit, i, range, j, at, symbol, past, marks, hints,
-        );
-        at += apart;
-    }
-    past
-}
-
-// Marks all that is reached, by the rows of a source. The answer is whether a step above the limit was met.
-pub fn search(
-    image: &[u8],
-    rows: &[u8],
-    source: Source,
-    word: &[u8],
-    limit: usize,
-    marks: &mut [u8],
-) -> bool
-    requires { Unmarked (table_of image.now) rows.now source word.now limit marks.old }
-    ensures { Searched (table_of image.now) word.now limit marks.new result }
-{
-    let mut hints = [0u64; 33];
-    mark(0, marks, &mut hints);
-    let mut over = false;
-    loop {
-        let i = pick(marks, &mut hints);
-        let none = i == SITUATIONS;
-        if none {
+impl Search<'_> {
+    // Follows a row that leaves the state of its situation, if it fits what is seen there: what it leads to within the limit is marked.
+    // The answer is whether a step above the limit was met, now or before.
+    fn follow(
+        &self,
+        shown: Shown,
+        over: bool,
+        marks: &mut [u8; MARK_BYTES],
+        hints: &mut Hints,
+    ) -> bool
+        requires { RowLeaves (table_of self.now.image.now) self.now.rows.now self.now.word.now self.now.limit marks.old over shown.i shown.range shown.j shown.at (symbol_is shown.seen) }
+        ensures { RowFollowed (table_of self.now.image.now) self.now.rows.now self.now.word.now self.now.limit marks.old marks.new result shown.i shown.range shown.j }
+    {
+        let i = shown.i;
+        let row = rows::row_here(self.rows, shown.at);
+        if !suits(self.image, row.symbol, row.test, shown.seen, i % 32) {
             return over;
         }
-        over = expand(image, rows, source, word, limit, i, over, marks, &mut hints);
+        let to = row.to;
+        match machine::step(self.image, self.word, row, i / 32 % 64, i % 32, self.limit) {
+            Outcome::Goes { cell, counter } => {
+                hints.mark((to * 64 + cell) * 32 + counter, marks);
+                over
+            }
+            Outcome::Blocked => over,
+            Outcome::OverLimit => true,
+        }
+    }
+
+    // Follows a row that is shown for a situation, if it leaves its state: of an image most rows do not.
+    fn visit(
+        &self,
+        shown: Shown,
+        over: bool,
+        marks: &mut [u8; MARK_BYTES],
+        hints: &mut Hints,
+    ) -> bool
+        requires { RowHere (table_of self.now.image.now) self.now.rows.now self.now.word.now self.now.limit marks.old over shown.i shown.range shown.j shown.at (symbol_is shown.seen) }
+        ensures { RowFollowed (table_of self.now.image.now) self.now.rows.now self.now.word.now self.now.limit marks.old marks.new result shown.i shown.range shown.j }
+    {
+        if rows::leaves(self.rows, shown.at, shown.i / 32 / 64) {
+            return self.follow(shown, over, marks, hints);
+        }
+        over
+    }
+
+    // Follows every row that a source shows for situation i, which is pending.
+    fn expand(&self, i: usize, over: bool, marks: &mut [u8; MARK_BYTES], hints: &mut Hints) -> bool
+        requires { Waiting (table_of self.now.image.now) self.now.rows.now self.now.source self.now.word.now self.now.limit marks.old over i }
+        ensures { Expanded (table_of self.now.image.now) self.now.word.now self.now.limit marks.old marks.new result i }
+    {
+        bits::clear_bit(marks, i + SITUATIONS);
+        let range = rows_of(self.source, self.rows, i / 32 / 64);
+        let seen = cells::head::seen(self.word, i / 32 % 64);
+        let mut at = range.first;
+        let mut past = over;
+        for j in 0..range.many {
+            let shown = Shown {
+                i,
+                seen,
+                range,
+                j,
+                at,
+            };
+            past = self.visit(shown, past, marks, hints);
+            at += range.apart;
+        }
+        past
+    }
+
+    // Marks all that is reached. The answer is whether a step above the limit was met.
+    pub fn run(&self, marks: &mut [u8; MARK_BYTES]) -> bool
+        requires { Unmarked (table_of self.now.image.now) self.now.rows.now self.now.source self.now.word.now self.now.limit marks.old }
+        ensures { Searched (table_of self.now.image.now) self.now.word.now self.now.limit marks.new result }
+    {
+        let mut hints = Hints::none();
+        hints.mark(0, marks);
+        let mut over = false;
+        while let Some(i) = hints.pick(marks) {
+            over = self.expand(i, over, marks, &mut hints);
+        }
+        over
     }
 }

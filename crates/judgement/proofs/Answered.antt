@@ -57,6 +57,12 @@ reason_back Named.OtherLetter = refl
 reason_back Named.HighLimit = refl
 reason_back Named.MarkBytes = refl
 
+-- refusals with the same number and place are equal
+pub refusal_once : {a b : Refusal} → number_of a.reason ≡ number_of b.reason → a.place ≡ b.place → a ≡ b
+refusal_once {a} {b} number place =
+    let same = sym (reason_back a.reason) ∙ ap reason_with number ∙ reason_back b.reason in
+    λ i. record { reason = same i; place = place i }
+
 -- the result of code that is an answer
 result_with : Answer → Result Given Refusal
 result_with (judged v c) = Ok (record { verdict = v; count = c })

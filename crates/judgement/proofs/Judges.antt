@@ -14,7 +14,9 @@ use Rattle.table.proofs.Image.{table_once}
 use Rattle.table.proofs.Refusal.{Single, Gives, Each, None, Some, NumbersRise, single_at_zero, first_once, first_has, first-none, first_least, each_append, first_split}
 use Rattle.machine.specs.Run.{Reach, Accepts}
 use Rattle.machine.proofs.Run.{no_everywhere}
-use Rattle.judgement.specs.Verdict.{Verdict, Yes, No, verdict_number, IsVerdict}
+use Rattle.judgement.specs.declared.answer.Verdict.{Verdict}
+use Rattle.judgement.specs.declared.answer.Verdict.TheVariants.{Yes, No}
+use Rattle.judgement.specs.Verdict.{verdict_number, IsVerdict}
 use Rattle.judgement.specs.Marks.{Marks}
 use Rattle.judgement.specs.Reasons.{input_reasons}
 use Rattle.judgement.specs.Judge.{marks_reason, reasons, Judgeable, Answer, judged, refused, answer_number, Judged, Refused, AnswerRight, Judges}

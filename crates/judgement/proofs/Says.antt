@@ -10,7 +10,9 @@ use Rattle.table.specs.Refusal.{First}
 use Rattle.table.proofs.Image.{table_once}
 use Rattle.table.proofs.Refusal.{first_has}
 use Rattle.machine.specs.Run.{Accepts, Passes}
-use Rattle.judgement.specs.Verdict.{Verdict, Yes, No, LimitMet, verdict_number, IsVerdict}
+use Rattle.judgement.specs.declared.answer.Verdict.{Verdict}
+use Rattle.judgement.specs.declared.answer.Verdict.TheVariants.{Yes, No, LimitMet}
+use Rattle.judgement.specs.Verdict.{verdict_number, IsVerdict}
 use Rattle.judgement.specs.Judge.{reasons, Judgeable, Answer, judged, refused, answer_number, Judged, AnswerRight, Judges}
 use Rattle.judgement.proofs.Verdict.{verdict_once, verdict_number_once, verdict_low}
 use Rattle.judgement.proofs.Judges.{no_reason, refused_bounds, number_tells, judges_once}

@@ -13,7 +13,9 @@ use Rattle.table.specs.WellFormed.{InRange}
 use Rattle.machine.specs.Step.{Situation}
 use Rattle.machine.specs.Run.{Reach}
 use Rattle.machine.proofs.Run.{reach_within}
-use Rattle.judgement.specs.Verdict.{Verdict, Yes, No, LimitMet, verdict_number, IsVerdict}
+use Rattle.judgement.specs.declared.answer.Verdict.{Verdict}
+use Rattle.judgement.specs.declared.answer.Verdict.TheVariants.{Yes, No, LimitMet}
+use Rattle.judgement.specs.Verdict.{verdict_number, IsVerdict}
 use Rattle.judgement.proofs.Number.{Among, number_of, situation_at, number_below, at_number}
 
 -- two verdicts on the same table, word and limit are equal

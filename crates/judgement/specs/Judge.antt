@@ -6,7 +6,8 @@ use Rattle.table.specs.Refusal.{Reason, at_zero, First, refusal, number_of}
 use Rattle.table.specs.declared.reason.Refusal.{Refusal}
 use Rattle.judgement.specs.declared.answer.Judged.{Judged as Given}
 use Rattle.machine.specs.Run.{Reach}
-use Rattle.judgement.specs.Verdict.{Verdict, verdict_number, IsVerdict}
+use Rattle.judgement.specs.declared.answer.Verdict.{Verdict}
+use Rattle.judgement.specs.Verdict.{verdict_number, IsVerdict}
 use Rattle.judgement.specs.Marks.{mark_bytes, Marks}
 use Rattle.judgement.specs.Reasons.{input_reasons, Admitted}
 

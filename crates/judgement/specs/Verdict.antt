@@ -2,8 +2,8 @@
 use Rattle.std.specs.Prelude.{ℕ, List}
 use Rattle.table.specs.Table.{Table}
 use Rattle.machine.specs.Run.{Accepts, Passes}
-pub use Rattle.judgement.specs.declared.answer.Verdict.{Verdict}
-pub use Rattle.judgement.specs.declared.answer.Verdict.TheVariants.{Yes, No, LimitMet}
+use Rattle.judgement.specs.declared.answer.Verdict.{Verdict}
+use Rattle.judgement.specs.declared.answer.Verdict.TheVariants.{Yes, No, LimitMet}
 
 unfoldable pub verdict_number : Verdict → ℕ
 verdict_number Yes = 1

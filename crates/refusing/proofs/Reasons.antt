@@ -1,95 +1,98 @@
 -- Each reason where none before it holds, and what is admitted where none does.
 use Prim.Native.Nat.{ℕ, ◌≤◌, ◌<◌}
 use native.Mathlib.Omega.{arith}
-use mathlib.Core.Path.{◌≡◌, refl, sym, ◌∙◌, subst}
+use mathlib.Core.Path.{◌≡◌, refl, sym, ap, subst}
 use mathlib.Core.Logic.{inl, inr}
-use mathlib.Core.List.{List}
-use lib.ListN.{length}
+use mathlib.Core.List.{List, Memᴰ}
+use lib.ListN.{length, get_or}
 use Rattle.table.specs.Table.{Table}
 use Rattle.table.specs.WellFormed.{IsImage, WellFormed}
-use Rattle.table.specs.Refusal.{because, at_zero, First}
+use Rattle.std.specs.Prelude.{Result, Ok, Err, ⊤}
+use Rattle.table.specs.Refusal.{because, at_zero, First, number_of}
+use Rattle.table.specs.declared.reason.Reason.TheVariants.{Malformed, LongWord, OtherLetter, HighLimit}
+use Rattle.table.specs.declared.reason.Refusal.{Refusal}
 use Rattle.table.specs.Fields.{table_of}
 use Rattle.table.proofs.Encoded.{image_table}
 use Rattle.table.proofs.Refusal.{first_once, first_has, first-none}
-use Rattle.checker.specs.Check.{Checked, well_formed, malformed, checked_number, CheckedRight, Checks}
+use Rattle.checker.specs.Check.{Checked, well_formed, malformed, answer_of, CheckedRight, Answers}
 use Rattle.judgement.specs.Reasons.{FirstOutside, input_reasons}
+use Rattle.judgement.proofs.Answered.{refusal_once}
 use Rattle.judgement.proofs.Reasons.{same_letters, input_single, input_none, input_numbered, input_place}
-use Rattle.refusing.specs.declared.Asked.{Asked}
-use Rattle.refusing.specs.declared.Asked.TheVariants.{Admitted, Refused}
 use Rattle.refusing.specs.Asking.{Asks}
-use Rattle.refusing.specs.Inside.Letters.{FirstOther}
+use Rattle.refusing.specs.Inside.Letters.{OtherAt}
 
--- a check that gives 1 found the image of a table, which is what its fields say
-checked_as : (image : List ℕ) (a : Checked) → CheckedRight image a → checked_number a ≡ 1 → IsImage (table_of image) image
-unfolding checked_number
-checked_as image well_formed is one = subst (λ (t : Table). IsImage t image) (sym (image_table is.1)) is.1
-checked_as image malformed not one = absurd (omega arith)
+-- a check that has nothing to say found the image of a table, which is what its fields say
+checked_as : (image : List ℕ) (a : Checked) → CheckedRight image a → Ok tt ≡ answer_of a → IsImage (table_of image) image
+unfolding answer_of
+checked_as image well_formed is same = subst (λ (t : Table). IsImage t image) (sym (image_table is.1)) is.1
+checked_as image malformed not same = cc
 
-pub checked_yes : {image : List ℕ} {r : ℕ} → Checks image r → r ≡ 1 → IsImage (table_of image) image
-checked_yes {image} c one = checked_as image c.answer c.right (sym c.number ∙ one)
+pub checked_yes : {image : List ℕ} → Answers image (Ok tt) → IsImage (table_of image) image
+checked_yes {image} c = checked_as image c.answer c.right c.is
 
--- any other did not
-checked_not : (image : List ℕ) (a : Checked) → CheckedRight image a → ¬ (checked_number a ≡ 1) → ¬ WellFormed image
-unfolding checked_number
-checked_not image well_formed is other = absurd (other refl)
-checked_not image malformed not other = not
+-- any other did not, and says so
+checked_not : (image : List ℕ) {refusal : Refusal} (a : Checked) → CheckedRight image a → Err refusal ≡ answer_of a
+    → (¬ WellFormed image) × (refusal ≡ record { reason = Malformed; place = 0 })
+unfolding answer_of
+checked_not image well_formed is same = cc
+checked_not image malformed not same = (not, cc)
 
-pub checked_no : {image : List ℕ} {r : ℕ} → Checks image r → ¬ (r ≡ 1) → ¬ WellFormed image
-checked_no {image} c other = checked_not image c.answer c.right (λ one. other (c.number ∙ one))
+pub checked_no : {image : List ℕ} {refusal : Refusal} → Answers image (Err refusal)
+    → (¬ WellFormed image) × (refusal ≡ record { reason = Malformed; place = 0 })
+checked_no {image} c = checked_not image c.answer c.right c.is
 
 module _ (image w : List ℕ) (limit : ℕ) where
-  refused : (number place : ℕ) → First (input_reasons image w limit) number place → Asks image w limit (Refused number place)
-  refused number place first = record { right = first }
-
-  pub refused_image : ¬ WellFormed image → Asks image w limit (Refused 21 0)
+  pub refused_image : {refusal : Refusal} → Answers image (Err refusal) → Asks image w limit (Err refusal)
   unfolding First
-  refused_image not = refused 21 0 (inl (refl, (refl, not)))
+  refused_image c = let no = checked_no c in rw no.1 (record { right = inl (refl, (refl, no.0)) })
 
   module _ (is : IsImage (table_of image) image) where
     not_image : (n p : ℕ) → ¬ at_zero 21 (¬ WellFormed image) n p
     not_image n p r = r.1.1 (table_of image, is)
 
-    pub refused_word : 62 < length w → Asks image w limit (Refused 22 0)
+    pub refused_word : 62 < length w → Asks image w limit (Err (record { reason = LongWord; place = 0 }))
     unfolding First
-    refused_word long = refused 22 0 (inr (not_image, inl (refl, (refl, long))))
+    refused_word long = record { right = inr (not_image, inl (refl, (refl, long))) }
 
     module _ (short : length w ≤ 62) where
       not_word : (n p : ℕ) → ¬ at_zero 22 (62 < length w) n p
       not_word n p r = omega arith
 
-      pub refused_letter : (at : ℕ) → FirstOther image w at → at < length w → Asks image w limit (Refused 23 at)
+      pub refused_letter : {at : ℕ} → OtherAt image w at → Asks image w limit (Err (record { reason = OtherLetter; place = at }))
       unfolding First
-      refused_letter at first inside =
+      refused_letter {at} first =
           let here : FirstOutside image w at =
-          record { table = table_of image; is_image = is; inside = inside; outside = first.outside inside; before = first.before } in
-          refused 23 at (inr (not_image, inr (not_word, inl (refl, here))))
+          record { table = table_of image; is_image = is; inside = first.inside; outside = first.outside; before = first.before } in
+          record { right = inr (not_image, inr (not_word, inl (refl, here))) }
 
-      module _ (at : ℕ) (first : FirstOther image w at) (whole : length w ≤ at) where
+      module _ (letters : (i : ℕ) → i < length w → Memᴰ (get_or w i 0) (table_of image).alphabet) where
         not_letter : (n p : ℕ) → ¬ because 23 (FirstOutside image w) n p
-        not_letter n p r = r.1.outside (same_letters is r.1.is_image (first.before p (omega (arith, r.1.inside))))
+        not_letter n p r = r.1.outside (same_letters is r.1.is_image (letters p r.1.inside))
 
-        pub refused_limit : 31 < limit → Asks image w limit (Refused 24 0)
+        pub refused_limit : 31 < limit → Asks image w limit (Err (record { reason = HighLimit; place = 0 }))
         unfolding First
-        refused_limit high = refused 24 0 (inr (not_image, inr (not_word, inr (not_letter, inl (refl, (refl, high))))))
+        refused_limit high = record { right = inr (not_image, inr (not_word, inr (not_letter, inl (refl, (refl, high))))) }
 
         -- none of these
-        pub admitted : limit ≤ 31 → Asks image w limit Admitted
+        pub admitted : limit ≤ 31 → Asks image w limit (Ok tt)
         admitted low =
-            record { right = record { is_image = is; short = short; letters = λ i inside. first.before i (omega arith); low = low } }
+            record { right = record { is_image = is; short = short; letters = letters; low = low } }
 
 -- asking has one answer
-pub asks_once : {image w : List ℕ} {limit : ℕ} (a b : Asked) → Asks image w limit a → Asks image w limit b → a ≡ b
-asks_once Admitted Admitted x y = refl
-asks_once {image} {w} {limit} Admitted (Refused n p) x y =
-    absurd (first-none n p (input_reasons image w limit) (input_none image w limit x.right) y.right)
-asks_once {image} {w} {limit} (Refused n p) Admitted x y =
-    absurd (first-none n p (input_reasons image w limit) (input_none image w limit y.right) x.right)
-asks_once {image} {w} {limit} (Refused n p) (Refused m q) x y =
+pub asks_once : {image w : List ℕ} {limit : ℕ} (a b : Result ⊤ Refusal) → Asks image w limit a → Asks image w limit b → a ≡ b
+asks_once (Ok a) (Ok b) x y = refl
+asks_once {image} {w} {limit} (Ok a) (Err e) x y =
+    absurd (first-none (number_of e.reason) e.place (input_reasons image w limit) (input_none image w limit x.right) y.right)
+asks_once {image} {w} {limit} (Err e) (Ok b) x y =
+    absurd (first-none (number_of e.reason) e.place (input_reasons image w limit) (input_none image w limit y.right) x.right)
+asks_once {image} {w} {limit} (Err e) (Err f) x y =
     let same = first_once (input_reasons image w limit) (input_single image w limit) x.right y.right in
-    λ i. Refused (same.0 i) (same.1 i)
+    ap (λ (r : Refusal). Err r) (refusal_once same.0 same.1)
 
 -- a refusal's number is 21 to 24, and its place is below 62
-pub asks_small : {image w : List ℕ} {limit number place : ℕ} → Asks image w limit (Refused number place) → (21 ≤ number) × (number ≤ 24) × (place ≤ 61)
-asks_small {image} {w} {limit} {number} {place} asks =
+pub asks_small
+    : {image w : List ℕ} {limit : ℕ} {refusal : Refusal} → Asks image w limit (Err refusal)
+    → (21 ≤ number_of refusal.reason) × (number_of refusal.reason ≤ 24) × (refusal.place ≤ 61)
+asks_small {image} {w} {limit} {refusal} asks =
     let numbered = first_has (λ n p. (21 ≤ n) × (n ≤ 24)) (input_reasons image w limit) (input_numbered image w limit) asks.right in
-    (numbered.0, numbered.1, omega (arith, input_place image w limit number place asks.right))
+    (numbered.0, numbered.1, omega (arith, input_place image w limit (number_of refusal.reason) refusal.place asks.right))

@@ -1,15 +1,13 @@
--- What asking comes to: admitted, with the table that the image's fields say, or refused with the first reason's number and place.
-use Rattle.std.specs.Prelude.{ℕ, List}
-use Rattle.table.specs.Refusal.{First}
+-- What asking comes to: admitted, with the table that the image's fields say, or refused by the first reason at its place.
+use Rattle.std.specs.Prelude.{ℕ, List, Result, Ok, Err, ⊤}
+use Rattle.table.specs.Refusal.{First, number_of}
 use Rattle.table.specs.Fields.{table_of}
-use Rattle.judgement.specs.Reasons.{input_reasons}
-use Rattle.judgement.specs.Reasons as Reasons
-use Rattle.refusing.specs.declared.Asked.{Asked}
-use Rattle.refusing.specs.declared.Asked.TheVariants.{Admitted, Refused}
+use Rattle.table.specs.declared.reason.Refusal.{Refusal}
+use Rattle.judgement.specs.Reasons.{input_reasons, Admitted}
 
-abbrev pub AskedRight : List ℕ → List ℕ → ℕ → Asked → Type 0
-AskedRight image word limit Admitted = Reasons.Admitted (table_of image) image word limit
-AskedRight image word limit (Refused number place) = First (input_reasons image word limit) number place
+abbrev pub AskedRight : List ℕ → List ℕ → ℕ → Result ⊤ Refusal → Type 0
+AskedRight image word limit (Ok admitted) = Admitted (table_of image) image word limit
+AskedRight image word limit (Err refusal) = First (input_reasons image word limit) (number_of refusal.reason) refusal.place
 
-pub record Asks (image word : List ℕ) (limit : ℕ) (r : Asked) : Type 0 where
+pub record Asks (image word : List ℕ) (limit : ℕ) (r : Result ⊤ Refusal) : Type 0 where
   pub right : AskedRight image word limit r

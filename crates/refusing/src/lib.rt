@@ -8,20 +8,14 @@ ghost use Rattle.bits.specs.Tells.{Tells};
 ghost use Rattle.refusing.specs.Asking.{Asks};
 ghost use Rattle.refusing.specs.Inside.Letters.{FirstOther};
 
-// Admitted, or refused with a number and its place.
-#[derive(Clone, Copy)]
-pub enum Asked {
-    Admitted,
-    Refused { number: u64, place: u64 },
-}
+use table::reason::{Reason, Refusal};
 
 // Whether a byte is a letter of the alphabet.
 fn in_alphabet(image: &[u8], b: u8) -> bool
     requires { length (table_of image.now).alphabet ≡ letters_of image.now }
     ensures { Tells result (Memᴰ b (table_of image.now).alphabet) }
 {
-    let many = fields::letter_count(image);
-    for c in 0..many {
+    for c in 0..fields::letter_count(image) {
         if fields::letter_at(image, c) == b {
             return true;
         }
@@ -29,51 +23,37 @@ fn in_alphabet(image: &[u8], b: u8) -> bool
     false
 }
 
-// The index of the first byte of the word that is no letter, or the word's length.
-fn outside(image: &[u8], word: &[u8]) -> usize
+// The index of the first byte of the word that is no letter.
+fn outside(image: &[u8], word: &[u8]) -> Option<usize>
     requires { length (table_of image.now).alphabet ≡ letters_of image.now }
     ensures { FirstOther image.now word.now result }
 {
-    let mut i = 0;
-    while i < word.len() {
-        if in_alphabet(image, word[i]) {
-            i += 1;
-        } else {
-            return i;
-        }
-    }
-    i
+    word.iter().position(|b| !in_alphabet(image, *b))
 }
 
 // The first reason to refuse, in number order, or that there is none.
-pub fn first_reason(image: &[u8], word: &[u8], limit: u64) -> Asked
+pub fn first_reason(image: &[u8], word: &[u8], limit: u64) -> Result<(), Refusal>
     ensures { Asks image.now word.now limit result }
 {
-    if checker::check(image) != 1 {
-        return Asked::Refused {
-            number: 21,
-            place: 0,
-        };
-    }
+    checker::check(image)?;
     let long = 62 < word.len();
     if long {
-        return Asked::Refused {
-            number: 22,
+        return Err(Refusal {
+            reason: Reason::LongWord,
             place: 0,
-        };
+        });
     }
-    let at = outside(image, word);
-    if at < word.len() {
-        return Asked::Refused {
-            number: 23,
-            place: at as u64,
-        };
+    if let Some(place) = outside(image, word) {
+        return Err(Refusal {
+            reason: Reason::OtherLetter,
+            place,
+        });
     }
     if 31 < limit {
-        return Asked::Refused {
-            number: 24,
+        return Err(Refusal {
+            reason: Reason::HighLimit,
             place: 0,
-        };
+        });
     }
-    Asked::Admitted
+    Ok(())
 }

@@ -2,29 +2,16 @@
 // A reader takes any bytes for rows; a byte past the end counts as 0.
 #![tactic(auto)]
 
-ghost use Rattle.std.specs.Prelude.{◌≡◌, ◌+◌, ◌*◌, ◌-◌, ◌≤◌, length, eqb};
+ghost use Rattle.std.specs.Prelude.{ℕ, ◌≡◌, ◌+◌, ◌*◌, ◌-◌, ◌<◌, eqb, get_or};
 ghost use Rattle.table.specs.Table.{Row};
 ghost use Rattle.table.specs.Form.{wide};
-ghost use Rattle.table.specs.Fields.{row_from, row_of, width_of};
+ghost use Rattle.table.specs.Fields.{byte_at, row_from, row_of, width_of};
 ghost use Rattle.table.specs.RowCode.{row_is};
 ghost use Rattle.table.specs.Source.{range_of};
 
-use fields::{first_row, row_count, two_at};
+use fields::{first_row, row_count, two, two_at};
 use table::source::{Range, Source};
 use table::{Row, form};
-
-// So much less, or 0.
-fn less(n: usize, by: usize) -> usize
-    ensures { result ≡ n - by }
-{
-    if n < by { 0 } else { n - by }
-}
-
-fn two(high: u8, low: u8) -> usize
-    ensures { result ≡ high * 256 + low }
-{
-    (high as usize) * 256 + low as usize
-}
 
 // How many bytes a row takes: eight in the one edition that there is.
 fn row_bytes(image: &[u8]) -> usize
@@ -48,48 +35,30 @@ fn row_place(image: &[u8], i: usize) -> usize
 pub fn leaves(rows: &[u8], at: usize, state: usize) -> bool
     ensures { result ≡ eqb (row_from rows.now at).from state }
 {
-    if at < less(rows.len(), 7) {
+    if at < rows.len().saturating_sub(7) {
         two(rows[at], rows[at + 1]) == state
     } else {
         two_at(rows, at) == state
     }
 }
 
-// The row whose bytes start here, where they all stand.
-fn whole_row(rows: &[u8], at: usize) -> Row
-    requires { at + 8 ≤ length rows.now }
-    ensures { row_is result ≡ row_from rows.now at }
+// The eight bytes that start here; those past the end are 0.
+fn bytes_from(rows: &[u8], at: usize) -> [u8; 8]
+    ensures { (k : ℕ) → k < 8 → get_or result k 0 ≡ byte_at rows.now (at + k) }
 {
-    Row {
-        from: two(rows[at], rows[at + 1]),
-        symbol: rows[at + 2],
-        test: rows[at + 3],
-        motion: rows[at + 4],
-        change: rows[at + 5],
-        to: two(rows[at + 6], rows[at + 7]),
-    }
-}
-
-// A place where a row is read of which some bytes may be past the end: where it starts, or the end if that is past it, since a place
-// behind that need not fit a number.
-fn place_of(rows: &[u8], at: usize) -> usize
-    ensures { (result ≤ length rows.now) × (row_from rows.now result ≡ row_from rows.now at) }
-{
-    if at < rows.len() { at } else { rows.len() }
-}
-
-// The row whose bytes start here, where some may be past the end: those are 0.
-fn cut_row(rows: &[u8], at: usize) -> Row
-    ensures { row_is result ≡ row_from rows.now at }
-{
-    let place = place_of(rows, at);
-    Row {
-        from: two_at(rows, place),
-        symbol: bits::byte_at(rows, place + 2),
-        test: bits::byte_at(rows, place + 3),
-        motion: bits::byte_at(rows, place + 4),
-        change: bits::byte_at(rows, place + 5),
-        to: two_at(rows, place + 6),
+    let rest = &rows[at.min(rows.len())..];
+    match rest.first_chunk() {
+        Some(row) => *row,
+        None => [
+            bits::byte_at(rest, 0),
+            bits::byte_at(rest, 1),
+            bits::byte_at(rest, 2),
+            bits::byte_at(rest, 3),
+            bits::byte_at(rest, 4),
+            bits::byte_at(rest, 5),
+            bits::byte_at(rest, 6),
+            bits::byte_at(rest, 7),
+        ],
     }
 }
 
@@ -97,10 +66,14 @@ fn cut_row(rows: &[u8], at: usize) -> Row
 pub fn row_here(rows: &[u8], at: usize) -> Row
     ensures { row_is result ≡ row_from rows.now at }
 {
-    if at < less(rows.len(), 7) {
-        whole_row(rows, at)
-    } else {
-        cut_row(rows, at)
+    let row = bytes_from(rows, at);
+    Row {
+        from: two(row[0], row[1]),
+        symbol: row[2],
+        test: row[3],
+        motion: row[4],
+        change: row[5],
+        to: two(row[6], row[7]),
     }
 }
 
@@ -108,7 +81,7 @@ pub fn row_here(rows: &[u8], at: usize) -> Row
 pub fn row_at(image: &[u8], i: usize) -> Row
     ensures { row_is result ≡ row_of image.now i }
 {
-    cut_row(image, row_place(image, i))
+    row_here(image, row_place(image, i))
 }
 
 // Where the rows that leave a state are shown.

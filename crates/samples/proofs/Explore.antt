@@ -15,7 +15,9 @@ use Rattle.table.specs.Table.{Row, Table}
 use Rattle.cells.specs.Cell.{moved}
 use Rattle.machine.specs.Step.{Situation, Takes, row_fits, changed}
 use Rattle.machine.specs.Run.{start, Reach, begins, goes, Accepts, Passes}
-use Rattle.judgement.specs.Verdict.{Verdict, Yes, No, LimitMet, IsVerdict}
+use Rattle.judgement.specs.declared.answer.Verdict.{Verdict}
+use Rattle.judgement.specs.declared.answer.Verdict.TheVariants.{Yes, No, LimitMet}
+use Rattle.judgement.specs.Verdict.{IsVerdict}
 use Rattle.bits.proofs.Tests.{every, every_at, and_left, and_right, and_of, or_left, or_right, or_cases}
 use Rattle.samples.proofs.Decide.{◌>>=◌, passed}
 

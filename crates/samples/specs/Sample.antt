@@ -7,7 +7,8 @@ use Rattle.table.specs.Table.{Table, Row}
 use Rattle.table.specs.Image.{encode, row_bytes}
 use Rattle.table.specs.Refusal.{First}
 use Rattle.machine.specs.Run.{Reach}
-use Rattle.judgement.specs.Verdict.{Verdict, IsVerdict}
+use Rattle.judgement.specs.declared.answer.Verdict.{Verdict}
+use Rattle.judgement.specs.Verdict.{IsVerdict}
 use Rattle.rule.specs.Tree.{Program}
 use Rattle.construction.specs.Construction.{construct}
 use Rattle.construction.specs.declared.Answer.TheVariants as Answer

@@ -1,13 +1,18 @@
 -- `judge::judge` meets its contract: a refusal leaves the marks as they were, and all else is decided.
-use mathlib.Core.Path.{refl}
-use Rattle.judge.proofs.Deciding.{judges_refused, judges_decided, judgeable_undecided}
+use Rattle.std.proofs.Common.{rules, ◌≡◌, refl}
+use Rattle.std.specs.Prelude.{Err}
+use Rattle.judge.proofs.Deciding.{refused_input, refused_marks, admitted_undecided}
 use Rattle.judge.proofs.judge.Goals as goal
 
-pub returns-then-refusal-ne0 : goal.returns-then-refusal-ne0
-returns-then-refusal-ne0 c = judges_refused (c.refused-refusal.ensures.some c.if-refusal-ne0.true) refl
+pub returns-in_err-first_reason : goal.returns-in_err-first_reason
+returns-in_err-first_reason c =
+    let same : c.from_residual.result ≡ Err c.in_err-first_reason.field-0.0 = search rules in
+    rw same (refused_input c.in_err-first_reason.ensures refl)
 
 pub decide-requires : goal.decide-requires
-decide-requires c = judgeable_undecided (c.refused-refusal.ensures.none c.if-refusal-ne0.false)
+decide-requires c =
+    let whole = c.in-Some.ensures.cases in
+    rw whole.same (admitted_undecided c.in_ok-first_reason.ensures whole.long)
 
-pub returns : goal.returns
-returns c = judges_decided (c.refused-refusal.ensures.none c.if-refusal-ne0.false) c.decide.ensures
+pub returns-in-None : goal.returns-in-None
+returns-in-None c = refused_marks c.in_ok-first_reason.ensures c.in-None.ensures.cases refl

@@ -1,45 +1,55 @@
 -- What the judge's own functions promise one another.
-use Rattle.std.specs.Prelude.{ℕ, ◌+◌, ◌*◌, ◌/◌, ◌%◌, ◌≤◌, ◌<◌, ◌≡◌, ◌≢◌, Bool, true, false, List, length, get_or}
+use Rattle.std.specs.Prelude.{ℕ, ◌+◌, ◌*◌, ◌/◌, ◌%◌, ◌≤◌, ◌<◌, ◌≡◌, Bool, true, false, List, length, get_or, Option, Some, None}
 use Rattle.bits.specs.Bit.{bit}
 use Rattle.bits.specs.Size.{Size}
 use Rattle.ones.specs.Blank.{Blank}
 use Rattle.table.specs.Table.{Row, Table, Accepting}
-use Rattle.table.specs.Refusal.{First, refusal}
-use Rattle.table.specs.Fields.{row_from, table_of}
+use Rattle.table.specs.Fields.{row_from}
 use Rattle.table.specs.Inside.Showing.{place_in, row_in, Shows, Sources}
 use Rattle.table.specs.declared.source.Range.{Range}
 use Rattle.table.specs.declared.source.Source.{Source}
 use Rattle.cells.specs.Cell.{Symbol, symbol_on}
 use Rattle.machine.specs.Run.{Reach}
-use Rattle.judgement.specs.Verdict.{Verdict, Yes, No, LimitMet, verdict_number, IsVerdict}
+use Rattle.judgement.specs.declared.answer.Verdict.{Verdict}
+use Rattle.judgement.specs.declared.answer.Verdict.TheVariants.{Yes, No, LimitMet}
+use Rattle.judgement.specs.Verdict.{IsVerdict}
 use Rattle.judgement.specs.Marks.{mark_bytes, first_half, Marks}
 use Rattle.judge.specs.Inside.Search.{situations, situation_of, Followed, Ready, Searching, Between, Keeps}
-use Rattle.judgement.specs.Judge.{reasons, Judgeable}
+use Rattle.judgement.specs.declared.answer.Judged.{Judged}
 use Rattle.judge.specs.declared.pending.Try.{Try}
 use Rattle.judge.specs.declared.pending.Try.TheVariants.{Found, Stale, Nothing}
 
--- the first bit that is set in the bytes from one place up to another, or the bit after them
-pub record FirstSet (m : List ℕ) (from to r : ℕ) : Type 0 where
-  pub low : from * 8 ≤ r
-  pub high : r ≤ to * 8
-  pub set : r < to * 8 → bit m r ≡ 1
-  pub none : to * 8 ≤ r → Blank m from to
+-- a bit that is set in the bytes from one place up to another
+pub record SetIn (m : List ℕ) (from to bit_number : ℕ) : Type 0 where
+  pub low : from * 8 ≤ bit_number
+  pub high : bit_number < to * 8
+  pub set : bit m bit_number ≡ 1
 
--- a guess at a pending situation: one, or the number of situations
-pub record Guess (m : List ℕ) (r : ℕ) : Type 0 where
-  pub high : r ≤ situations
-  pub set : r < situations → bit m (r + situations) ≡ 1
+-- the first one, or none
+abbrev pub FirstSet : List ℕ → ℕ → ℕ → Option ℕ → Type 0
+FirstSet m from to (Some r) = SetIn m from to r
+FirstSet m from to None = Blank m from to
+
+-- situation i is pending
+pub record Pending (m : List ℕ) (i : ℕ) : Type 0 where
+  pub low : i < situations
+  pub waits : bit m (i + situations) ≡ 1
+
+-- a guess at a pending situation
+abbrev pub Guess : List ℕ → Option ℕ → Type 0
+Guess m (Some i) = Pending m i
+Guess m None = Unit {0}
 
 -- what following a hint comes to
 abbrev pub TryRight : List ℕ → Try → Type 0
-TryRight m (Found i) = (i < situations) × (bit m (i + situations) ≡ 1)
+TryRight m (Found i) = Pending m i
 TryRight m Stale = Unit {0}
 TryRight m Nothing = Unit {0}
 
--- a pending situation, or the number of situations where none is
-pub record Picked (m : List ℕ) (r : ℕ) : Type 0 where
-  pub guess : Guess m r
-  pub none : situations ≤ r → (k : ℕ) → first_half ≤ k → get_or m k 0 ≡ 0
+-- a pending situation, or that none is
+abbrev pub Picked : List ℕ → Option ℕ → Type 0
+Picked m (Some i) = Pending m i
+Picked m None = (k : ℕ) → first_half ≤ k → get_or m k 0 ≡ 0
 
 -- a row is one of those before the next that a range of rows shows
 pub record Shown (rows : List ℕ) (range : Range) (next : ℕ) (r : Row) : Type 0 where
@@ -112,27 +122,7 @@ pub record Undecided (t : Table) (rows : List ℕ) (source : Source) (w : List �
   pub room : length m ≡ mark_bytes
 
 -- the answer on it
-pub record Decided (t : Table) (w : List ℕ) (L : ℕ) (m : List ℕ) (r : ℕ) : Type 0 where
-  pub verdict : Verdict
-  pub many : ℕ
-  pub right : IsVerdict t w L verdict
-  pub count : Size (Reach t w L) many
+pub record Decided (t : Table) (w : List ℕ) (L : ℕ) (m : List ℕ) (answer : Judged) : Type 0 where
+  pub right : IsVerdict t w L answer.verdict
+  pub count : Size (Reach t w L) answer.count
   pub marks : Marks t w L m
-  pub number : r ≡ verdict_number verdict * 1000000 + many
-
--- number 25, or 0 for a mark buffer of the right length
-pub record RoomRefusing (m : List ℕ) (r : ℕ) : Type 0 where
-  pub none : r ≡ 0 → length m ≡ mark_bytes
-  pub some : ¬ (r ≡ 0) → (r ≡ refusal 25 0) × (length m ≢ mark_bytes)
-
--- a refusal as one number
-pub record RefusedAs (image w : List ℕ) (limit : ℕ) (m : List ℕ) (r : ℕ) : Type 0 where
-  pub number : ℕ
-  pub place : ℕ
-  pub first : First (reasons image w limit m) number place
-  pub is : r ≡ refusal number place
-
--- a refusal, or 0 for what is judged
-pub record Refusing (image w : List ℕ) (limit : ℕ) (m : List ℕ) (r : ℕ) : Type 0 where
-  pub none : r ≡ 0 → Judgeable (table_of image) image w limit m
-  pub some : ¬ (r ≡ 0) → RefusedAs image w limit m r

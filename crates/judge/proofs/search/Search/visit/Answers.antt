@@ -1,7 +1,7 @@
--- `judge::search::visit` meets its contract: a row out of another state does nothing.
+-- `judge::search::Search::visit` meets its contract: a row out of another state does nothing.
 use mathlib.Core.Path.{sym, ◌∙◌}
 use Rattle.judge.proofs.Following.{followed_other}
-use Rattle.judge.proofs.search.visit.Goals as goal
+use Rattle.judge.proofs.search.Search.visit.Goals as goal
 
 pub returns : goal.returns
 returns c =

@@ -1,0 +1,2 @@
+-- Laws of bytes from a place on.
+pub mod Rest
