@@ -5,9 +5,9 @@ use native.Mathlib.Decide.{ℕ_discrete, dec_lt}
 use native.Mathlib.Omega.{arith}
 use mathlib.Core.Path.{◌≡◌, refl, sym, ap, ◌∙◌}
 use mathlib.Core.Logic.{⊎_elim}
-use mathlib.Core.List.{List, ◌++◌, append-nil}
-use lib.ListN.{length, get_or, set, take, drop, replicate, length-set, length-take, get_or-replicate, length-replicate, get_or-eq_default}
-use lib.Seq.{get_or-set_same, get_or-set_other, get_or-take, set_out, set-get_or, drop-length}
+use mathlib.Core.List.{List}
+use lib.ListN.{length, get_or, set, take, replicate, length-set, length-take, get_or-replicate, length-replicate, get_or-eq_default}
+use lib.Seq.{get_or-set_same, get_or-set_other, get_or-take, set_out, set-get_or}
 use Rattle.bits.specs.Bit.{bit, with_bit, without_bit, Bytes}
 use lib.Bits.{bit_or}
 use Rattle.bits.proofs.Digits.{one_shifted, or_number, digit_at_most, digit_cases, cleared_clear, cleared_full}
@@ -65,12 +65,6 @@ bit_zeros n i = rw (get_or-zeros, zero-div) refl
 
 pub bytes_zeros : (n : ℕ) → Bytes (replicate n 0)
 bytes_zeros n i = omega (arith, get_or-zeros n i)
-
--- a list filled to its end is all 0
-pub filled : {m : List ℕ} (d : List ℕ) (i : ℕ) → i ≤ length d → length d ≤ i → m ≡ replicate i 0 ++ drop i d → m ≡ replicate (length d) 0
-filled d i low high e =
-    let end : i ≡ length d = omega arith in
-    e ∙ rw (end, drop-length, append-nil) refl
 
 module _ (m : List ℕ) where
   -- bit i is set afterwards, if it is inside

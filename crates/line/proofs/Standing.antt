@@ -5,8 +5,6 @@ use mathlib.Core.Path.{◌≡◌, refl, sym, ◌∙◌, ap, subst}
 use mathlib.Core.List.{List, [], ◌++◌, append_assoc}
 use lib.ListN.{length, take, drop, length-append}
 use lib.Seq.{length-take-le}
-use Rattle.bits.specs.Inside.Over.{over}
-use Rattle.bits.proofs.Over.{over-behind}
 use Rattle.line.specs.Standing.{Stands}
 use Rattle.line.specs.Inside.Adding.{Adds}
 
@@ -34,21 +32,6 @@ front_counts {out} xs rest is long =
 
 pub stands_counts : {old out bytes : List ℕ} {end : ℕ} → Stands old out end bytes → IsPrefixLen end out
 stands_counts {old} {out} {bytes} {end} s = front_counts bytes (drop end old) s.is s.ends
-
--- bytes that are put behind what stands are added
-pub adds_over : {before after : List ℕ} {from to : ℕ} (bytes : List ℕ) → after ≡ over before from bytes → to ≡ from + length bytes → Adds before after from to bytes
-adds_over {before} {after} {from} {to} bytes put end =
-    record {
-      adds = λ old standing s. record {
-        is =
-            put
-            ∙ ap (λ (l : List ℕ). over l from bytes) s.is
-            ∙ over-behind standing bytes old from (sym s.ends)
-            ∙ ap (λ (n : ℕ). (standing ++ bytes) ++ drop n old) (sym end);
-        ends = omega (arith, s.ends, length-append standing bytes);
-      };
-      ends = end;
-    }
 
 -- what is added at the beginning stands there
 pub adds_stands : {before after : List ℕ} {to : ℕ} {bytes : List ℕ} → Adds before after 0 to bytes → Stands before after to bytes

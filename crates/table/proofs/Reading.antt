@@ -71,10 +71,6 @@ module _ (image : List ℕ) where
       let to : two_at image (at + 6) ≡ 0 = omega (arith, zero 6, byte_past (at + 6 + 1) (omega arith)) in
       λ j. record { from = from j; symbol = zero 2 j; test = zero 3 j; move = zero 4 j; change = zero 5 j; to = to j }
 
-  -- a two-byte number past the end
-  pub two_past : (at : ℕ) → length image ≤ at → 0 ≡ two_at image at
-  two_past at past = omega (arith, byte_past at past, byte_past (at + 1) (omega arith))
-
   -- the state that a row leaves
   pub from_here : (at : ℕ) → two_at image at ≡ (row_from image at).from
   unfolding row_from

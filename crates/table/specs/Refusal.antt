@@ -1,7 +1,6 @@
 -- Refusals: each has a number and a place. An entry has reasons to refuse, in an order, and gives the first that holds.
 use Rattle.std.specs.Prelude.{ℕ, ◌+◌, ◌*◌, ◌≡◌, ◌⊎◌, List, [], ◌∷◌}
 use Rattle.table.specs.declared.reason.Reason.{Reason as Named}
-use Rattle.table.specs.declared.reason.Reason.TheVariants as Named
 
 -- which numbers and places a reason gives
 abbrev pub Reason : Type 1

@@ -16,12 +16,6 @@ use Rattle.text.specs.declared.Sign.{Sign}
 use Rattle.text.specs.Inside.Scan.{longest_of}
 use Rattle.text.proofs.Runs.{T_either, longest_of_bound, longest_of_found, longest_of_fits}
 
--- tests of lists of one byte, and of two
-abbrev pub of_one : (ℕ → Bool) → List ℕ → Bool
-of_one test [] = true
-of_one test (x ∷ []) = test x
-of_one test (x ∷ y ∷ l) = true
-
 abbrev pub of_two : (ℕ → ℕ → Bool) → List ℕ → Bool
 of_two test [] = true
 of_two test (x ∷ []) = true

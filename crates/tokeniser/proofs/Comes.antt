@@ -41,9 +41,6 @@ skips_first {text} {p} {n} s f =
 pub step_blank : (text : List ℕ) (p n : ℕ) {s : Step} → StepRight text p s → s ≡ Step.Blank n → Skips text p n
 step_blank text p n h e = subst (StepRight text p) e h
 
-pub step_token : (text : List ℕ) (p : ℕ) {r : Token} {s : Step} → StepRight text p s → s ≡ Step.Token r → FirstToken text p r
-step_token text p h e = subst (StepRight text p) e h
-
 bad_tokens : (p : ℕ) (bytes : List ℕ) → Bad bytes → Tokens p bytes [] (broken p)
 bad_tokens p [] h = absurd (h.some refl)
 bad_tokens p (b ∷ bs) h = Of.none h.no_blank h.no_token

@@ -3,7 +3,7 @@ use Prim.Native.Nat.{ℕ, zero, suc, ◌+◌, ◌*◌, ◌-◌, ◌≤◌, ◌<�
 use native.Mathlib.Omega.{arith}
 use native.Mathlib.Nat.{zero-add}
 use native.Mathlib.Decide.{dec_lt}
-use mathlib.Core.Path.{◌≡◌, refl, sym, ap, ap₂, ◌∙◌, subst}
+use mathlib.Core.Path.{◌≡◌, refl, sym, ap, ap₂, ◌∙◌}
 use mathlib.Core.Bool.{Bool, true, not, ◌&&◌}
 use mathlib.Core.List.{List, [], ◌∷◌}
 use lib.ListN.{length, get_or}
@@ -12,8 +12,6 @@ use borrow.Author.Tests.{lt-ltb, le-ltb, le-leb, lt-leb, eq-eqb, ne_eqb}
 use Rattle.bits.specs.Byte.{is_digit}
 use Rattle.bits.proofs.Tests.{and_left, and_right, and_of}
 use Rattle.text.specs.Token.{every, number, Spells, a_number}
-use Rattle.text.specs.First.{part, FirstToken}
-use Rattle.text.specs.declared.Token.{Token}
 use Rattle.rule.specs.Limits.{in_form, value_from}
 use Rattle.rule.specs.Inside.Machine.{outside}
 
@@ -72,7 +70,3 @@ module _ (g : ℕ) where
 
 spells_digits : {l n : List ℕ} → Spells l (number n) → T (every is_digit l)
 spells_digits (a_number {b = b} {bs = bs} t u) = and_of (is_digit b) (every is_digit bs) t u
-
--- the bytes of a number are digits
-pub number_digits : {text : List ℕ} {from p q : ℕ} {k : Token} → FirstToken text from k → k ≡ Token.Number p q → T (every is_digit (part text p q))
-number_digits {text} {from} f e = spells_digits (subst (λ (u : Token). FirstToken text from u) e f).begins.bytes
