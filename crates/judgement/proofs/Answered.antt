@@ -1,18 +1,19 @@
 -- The answer that a judge gives tells the number that it gives, and no second answer is right.
-use Prim.Native.Nat.{ℕ, ◌-◌}
+use Prim.Native.Nat.{ℕ, ◌+◌, ◌-◌, ◌*◌, ◌<◌}
 use mathlib.Core.Path.{◌≡◌, refl, sym, ap, ◌∙◌}
 use mathlib.Core.Bool.{cond}
 use mathlib.Core.List.{List, [], ◌∷◌}
 use lib.ListN.{get_or}
 use lib.Dec.{ltb}
 use Rattle.std.specs.Prelude.{Result, Ok, Err}
-use Rattle.table.specs.Refusal.{number_of}
+use Rattle.table.specs.Refusal.{number_of, refusal}
 use Rattle.table.specs.declared.reason.Reason.{Reason}
 use Rattle.table.specs.declared.reason.Reason.TheVariants as Named
 use Rattle.table.specs.declared.reason.Refusal.{Refusal}
 use Rattle.judgement.specs.declared.answer.Judged.{Judged as Given}
+use Rattle.judgement.specs.Verdict.{verdict_number}
 use Rattle.judgement.specs.Judge.{Answer, judged, refused, answer_number, answer_of, Answers, Judges}
-use Rattle.judgement.proofs.Judges.{answer_once}
+use Rattle.judgement.proofs.Judges.{answer_once, count_small, refused_bounds}
 
 -- the number of a right answer is what judging promises
 pub answers_number
@@ -20,21 +21,35 @@ pub answers_number
     → Answers image word limit before after result → Judges image word limit before after (answer_number (answer_of result))
 answers_number {result = result} a = record { answer = answer_of result; right = a.right; number = refl }
 
+-- that of a verdict is its number and then the count, which is below a million
+pub answers_judged
+    : {image word : List ℕ} {limit : ℕ} {before after : List ℕ} {answer : Given} → Answers image word limit before after (Ok answer)
+    → (answer.count < 1000000) × Judges image word limit before after (verdict_number answer.verdict * 1000000 + answer.count)
+unfolding answer_number
+answers_judged a = (count_small a.right, answers_number a)
+
+-- that of a refusal is its number and then the place, which is below a million
+pub answers_refused
+    : {image word : List ℕ} {limit : ℕ} {before after : List ℕ} {refused : Refusal} → Answers image word limit before after (Err refused)
+    → (refused.place < 1000000) × Judges image word limit before after (refusal (number_of refused.reason) refused.place)
+unfolding answer_number
+answers_refused a = ((refused_bounds a.right).1, answers_number a)
+
 -- the reason with a number
 reason_with : ℕ → Reason
 reason_with n =
     cond (ltb n 21) (get_or (
-      Named.LongText
-      ∷ Named.ShortImage
-      ∷ Named.NoToken
-      ∷ Named.Misplaced
-      ∷ Named.Alphabet
-      ∷ Named.OutsideAlphabet
-      ∷ Named.Number
-      ∷ Named.Depth
-      ∷ Named.Arms
-      ∷ Named.States
-      ∷ []
+    Named.LongText
+    ∷ Named.ShortImage
+    ∷ Named.NoToken
+    ∷ Named.Misplaced
+    ∷ Named.Alphabet
+    ∷ Named.OutsideAlphabet
+    ∷ Named.Number
+    ∷ Named.Depth
+    ∷ Named.Arms
+    ∷ Named.States
+    ∷ []
     ) (n - 1) Named.Rows)
     (get_or (Named.Malformed ∷ Named.LongWord ∷ Named.OtherLetter ∷ Named.HighLimit ∷ []) (n - 21) Named.MarkBytes)
 
