@@ -27,7 +27,10 @@ use Rattle.rule.proofs.Machine.Steps.{begin, eat}
 use Rattle.rule.proofs.Machine.Complete.{built}
 use Rattle.rule.proofs.Outcomes.{built_program, refused_fault}
 use Rattle.construction.specs.Construction.{construct}
-use Rattle.construction.specs.declared.Answer.TheVariants as Answer
+use Rattle.std.specs.Prelude.{Ok, Err, cond, eqb}
+use Rattle.table.specs.Refusal.{number_of}
+use Rattle.table.specs.declared.reason.Reason.{Reason as Named}
+use Rattle.table.specs.declared.reason.Reason.TheVariants as Named
 use Rattle.construction.specs.Compile.{Compilable, reasons, image_room}
 use Rattle.line.specs.CompileLine.{compile_line}
 use Rattle.samples.specs.Sample as Sample
@@ -88,7 +91,7 @@ pub with_count : (t : Table) (word : List ℕ) (limit count : ℕ) (x : Explored
 with_count t word limit count x e = subst (λ (n : ℕ). Size (Reach t word limit) n) e (size_of t word limit x)
 
 abbrev find : (t : Table) (f : Finding) → Option (FindingHolds t f)
-find t (prints text) = equal_lists (compile_line (Answer.Compiled (length (encode t)) t.states (length t.rows))) (spelling text)
+find t (prints text) = equal_lists (compile_line (Ok (record { bytes = length (encode t); states = t.states; rows = length t.rows }))) (spelling text)
 find t (has states rows) = do
   a ← equal t.states states
   b ← equal (length t.rows) rows
@@ -139,6 +142,20 @@ refuse text n p = do
   h ← fault_of text (outcome text) refl n p
   some (first_refusal text n p short h)
 
+-- the reason with a number of the compiler
+abbrev named : ℕ → Named
+named n =
+    cond (eqb n 1) Named.LongText
+    (cond (eqb n 2) Named.ShortImage
+    (cond (eqb n 3) Named.NoToken
+    (cond (eqb n 4) Named.Misplaced
+    (cond (eqb n 5) Named.Alphabet
+    (cond (eqb n 6) Named.OutsideAlphabet
+    (cond (eqb n 7) Named.Number
+    (cond (eqb n 8) Named.Depth
+    (cond (eqb n 9) Named.Arms
+    (cond (eqb n 10) Named.States Named.Rows)))))))))
+
 -- a line, and a table of lines
 abbrev pub prove : (x : Sample) → Option (Holds x)
 prove (compiles text findings) = do
@@ -147,8 +164,9 @@ prove (compiles text findings) = do
   some (c.0, c.1, hs)
 prove (refuses text n p printed) = do
   r ← refuse (spelling text) n p
-  h ← equal_lists (compile_line (Answer.Refused n p)) (spelling printed)
-  some (r, h)
+  e ← equal (number_of (named n)) n
+  h ← equal_lists (compile_line (Err (record { reason = named n; place = p }))) (spelling printed)
+  some (r, (named n, e, h))
 
 abbrev pub right : List Sample → Bool
 right [] = true

@@ -1,5 +1,5 @@
 -- A line of samples: a text, and what the definitions are to say of it.
-use Rattle.std.specs.Prelude.{ℕ, ◌≡◌, List, [], ◌∷◌, length, replicate}
+use Rattle.std.specs.Prelude.{ℕ, ◌≡◌, List, [], ◌∷◌, length, replicate, Ok, Err}
 use Prim.Native.String.{String}
 use Rattle.bits.specs.Byte.{spelling}
 use Rattle.bits.specs.Size.{Size}
@@ -11,7 +11,8 @@ use Rattle.judgement.specs.declared.answer.Verdict.{Verdict}
 use Rattle.judgement.specs.Verdict.{IsVerdict}
 use Rattle.rule.specs.Tree.{Program}
 use Rattle.construction.specs.Construction.{construct}
-use Rattle.construction.specs.declared.Answer.TheVariants as Answer
+use Rattle.table.specs.Refusal.{number_of}
+use Rattle.table.specs.declared.reason.Reason.{Reason as Named}
 use Rattle.construction.specs.Compile.{Compilable, reasons, image_room}
 use Rattle.line.specs.CompileLine.{compile_line}
 
@@ -37,7 +38,7 @@ only_row t bytes = (r : Row) × (t.rows ≡ r ∷ []) × (row_bytes r ≡ bytes)
 
 abbrev pub FindingHolds : Table → Finding → Type 0
 FindingHolds t (prints text) =
-    compile_line (Answer.Compiled (length (encode t)) t.states (length t.rows)) ≡ spelling text
+    compile_line (Ok (record { bytes = length (encode t); states = t.states; rows = length t.rows })) ≡ spelling text
 FindingHolds t (has states rows) = (t.states ≡ states) × (length t.rows ≡ rows)
 FindingHolds t (image bytes) = encode t ≡ bytes
 FindingHolds t (row bytes) = only_row t bytes
@@ -53,7 +54,7 @@ abbrev pub Holds : Sample → Type 0
 Holds (compiles text found) = (p : Program) × Compilable (spelling text) p × AllHold (construct p) found
 Holds (refuses text number place printed) =
     First (reasons (spelling text) (replicate image_room 0)) number place
-    × (compile_line (Answer.Refused number place) ≡ spelling printed)
+    × ((reason : Named) × (number_of reason ≡ number) × (compile_line (Err (record { reason = reason; place = place })) ≡ spelling printed))
 
 pub data EachHolds : List Sample → Type 0 where
   none : EachHolds []

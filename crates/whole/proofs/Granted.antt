@@ -20,7 +20,9 @@ use Rattle.rule.specs.Faults.{Reads}
 use Rattle.rule.proofs.Outcomes.{reads_once}
 use Rattle.construction.specs.Construction.{construct}
 use Rattle.construction.specs.Agreement.{Agree}
-use Rattle.construction.specs.declared.Answer.{Answer}
+use Rattle.std.specs.Prelude.{Result, Ok, Err}
+use Rattle.table.specs.declared.reason.Refusal.{Refusal}
+use Rattle.construction.specs.declared.Sizes.{Sizes}
 use Rattle.construction.specs.Compile.{answer_number, Compiled, Compiles, CompilesTo}
 use Rattle.construction.proofs.Compiles.{refused_bounds}
 use Rattle.whole.specs.Grant.{Grants, SaysNo, SaysLimitMet, Asks, Deserves}
@@ -132,16 +134,16 @@ pub record Delivered (text image : List ℕ) : Type 0 where
   pub agree : Agree program
 
 answer_delivers
-    : {text before after : List ℕ} {n : ℕ} (a : Answer) → Compiles text before after a → n ≡ answer_number a → n < 1000000
+    : {text before after : List ℕ} {n : ℕ} (a : Result Sizes Refusal) → Compiles text before after a → n ≡ answer_number a → n < 1000000
     → Delivered text (take n after)
 unfolding answer_number
-answer_delivers {text} {after = after} (Answer.Compiled bytes states rows) c is low = record {
+answer_delivers {text} {after = after} (Ok sizes) c is low = record {
   program = c.right.program;
   reads = c.right.compilable.reads;
   is_image = subst (λ (m : ℕ). IsImage (construct c.right.program) (take m after)) (sym is) (delivered c.right);
   agree = c.right.agree;
 }
-answer_delivers (Answer.Refused number place) c is low = absurd (omega (arith, refused_bounds c.right))
+answer_delivers (Err refusal) c is low = absurd (omega (arith, refused_bounds c.right))
 
 -- an answer of compiling below 1,000,000 is the length of an image of the table of the text's program
 pub delivers : {text before after : List ℕ} {n : ℕ} → CompilesTo text before after n → n < 1000000 → Delivered text (take n after)
