@@ -2,6 +2,7 @@
 -- byte: statements above a statement, arms and what is guarded above a block.
 use native.Mathlib.Omega.{arith}
 use mathlib.Core.Path.{refl, ap}
+use mathlib.Core.Logic.{⊎_elim}
 use mathlib.Core.List.{[]}
 use lib.ListN.{length}
 use Prim.Native.Nat.{ℕ, ◌<◌}
@@ -202,10 +203,6 @@ pub statement-counting-requires-in-Accept : goal.statement-counting-requires-in-
 statement-counting-requires-in-Accept t c =
     room (moved_word c.next-token.ensures c.in-Word.is) (omega arith) (omega arith)
 
-pub statement-counting-requires-in-Reject : goal.statement-counting-requires-in-Reject
-statement-counting-requires-in-Reject t c =
-    room (moved_word c.next-token.ensures c.in-Word.is) (omega arith) (omega arith)
-
 pub statement-counting-requires-in-If : goal.statement-counting-requires-in-If
 statement-counting-requires-in-If t c =
     room (moved_word c.next-token.ensures c.in-Word.is) (omega arith) (omega arith)
@@ -240,11 +237,11 @@ statement-returns-in-C t c =
 
 pub statement-returns-in-Accept : goal.statement-returns-in-Accept
 statement-returns-in-Accept t c =
-    eats_counted (this_word c.next-token.ensures {m = Fixed.accept} c.in-Word.is c.in-Accept.is refl refl) c.counting-in-Accept.ensures refl refl refl (over _ (exactly (c.sign.ensures Fixed.semicolon refl)))
-
-pub statement-returns-in-Reject : goal.statement-returns-in-Reject
-statement-returns-in-Reject t c =
-    eats_counted (this_word c.next-token.ensures {m = Fixed.reject} c.in-Word.is c.in-Reject.is refl refl) c.counting-in-Reject.ensures refl refl refl (over _ (exactly (c.sign-in-Reject.ensures Fixed.semicolon refl)))
+    let ends = exactly (c.sign.ensures Fixed.semicolon refl) in
+    ⊎_elim
+    (λ e. eats_counted (this_word c.next-token.ensures {m = Fixed.accept} c.in-Word.is e refl refl) c.counting-in-Accept.ensures refl refl refl (over _ ends))
+    (λ e. eats_counted (this_word c.next-token.ensures {m = Fixed.reject} c.in-Word.is e refl refl) c.counting-in-Accept.ensures refl refl refl (over _ ends))
+    c.in-Accept.is
 
 pub statement-returns-in-If : goal.statement-returns-in-If
 statement-returns-in-If t c =
