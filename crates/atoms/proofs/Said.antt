@@ -1,10 +1,9 @@
 -- What an atom's tokens say, one after the other, and that they say one thing only.
 use Prim.Native.Nat.{ℕ}
 use mathlib.Core.Path.{◌≡◌, refl, sym, ap, ◌∙◌, subst}
-use mathlib.Core.Bool.{Bool, true, false, not}
+use mathlib.Core.Bool.{Bool, true, false}
 use mathlib.Core.List.{List}
 use Rattle.std.specs.Prelude.{Result, Ok, Err}
-use mir.Val.{has_key}
 use Rattle.text.specs.First.{FirstToken}
 use Rattle.text.specs.declared.Word.{Word}
 use Rattle.text.specs.declared.Sign.{Sign}
@@ -15,7 +14,6 @@ use Rattle.atoms.specs.Atom.{refusal_of, Read, Next, Case, stands, other, Tested
 use Rattle.atoms.specs.Inside.Parts.{ComparisonSays, SymbolSays, behind_zero, ZeroSays}
 use Rattle.atoms.specs.declared.Symbol.{Symbol}
 use Rattle.atoms.specs.declared.Atom.TheVariants as Atom
-use Rattle.atoms.proofs.Arms.{passing}
 
 -- a relation that gives one value at most
 abbrev Once : {A B : Type 0} → (A → B → Type 0) → Type 0
@@ -118,10 +116,6 @@ module _ {A R S : Type 0} {StandsFor : Token → A → Type 0} {Part : A → Res
       → Case StandsFor Says k (Err d)
   case_err (stands {a = a} i x) e on = stands i (on a (subst (Part a) e x))
   case_err {d = d} (other h) e on = case_other k refl h cc
-
--- so many numbers but for these
-abbrev pub but : List ℕ → ℕ → List ℕ
-but named many = passing (λ n. not (has_key named n)) 0 many
 
 -- what is no word tests nothing, what is no sign compares nothing, what is no number is none
 pub no_test : {k : Token} → ((p q : ℕ) (x : Word) → ¬ (k ≡ Token.Word p q x)) → (a : Tested) → ¬ IsTested k a

@@ -2,22 +2,19 @@
 use Prim.Native.Nat.{ℕ}
 use mathlib.Core.Path.{◌≡◌, refl, ap}
 use mathlib.Core.Bool.{Bool, true, false, not, ◌&&◌}
-use mathlib.Core.List.{List, [], ◌∷◌}
+use mathlib.Core.List.{List}
 use lib.Dec.{T, leb}
-use denote.Enum.Declared.{tag_of}
-use types.Run.{OneOf, hit}
 use Rattle.text.specs.Token.{w, sign}
 use Rattle.text.specs.First.{written, part, FirstToken}
 use Rattle.text.specs.declared.Word.{Word}
 use Rattle.text.specs.declared.Sign.{Sign}
 use Rattle.text.specs.declared.Token.{Token}
-use Rattle.text.specs.contracts.Sign as sign-type
 use Rattle.rule.specs.Tree as Tree
 use Rattle.rule.specs.Grammar as Grammar
 use Rattle.rule.specs.Limits.{in_form, value_from}
 use Rattle.rule.specs.Inside.Class.{Fixed, classify}
 use Rattle.rule.proofs.Machine.Follow.{unlike}
-use Rattle.rule.specs.Inside.Machine.{Totals, operand, read_test, counter_test, symbol_name, number}
+use Rattle.rule.specs.Inside.Machine.{Totals, operand, read_test, counter_test, symbol_name, number, choices}
 use Rattle.atoms.specs.Atom as Atom
 use Rattle.atoms.specs.Atom.{
   Next,
@@ -46,13 +43,12 @@ use Rattle.atoms.specs.Atom.{
   AtomAt,
 }
 use Rattle.atoms.specs.Atom.{Read as AtomAnswer}
-use Rattle.atoms.proofs.Said.{but}
 use Rattle.reader.specs.Inside.Atoms.{behind, compared, OpensNothing, Tests}
 use Rattle.reader.specs.declared.answers.Reader.{Reader}
-use Rattle.reader.proofs.Taken.{unlike_class}
+use Rattle.reader.proofs.Taken.{unlike_class, untaken_lem}
 use Rattle.reader.proofs.Front.{class_of, front_word, front_number, front_letter, front_sign}
 use Rattle.reader.proofs.Missed.{Misses}
-use Rattle.reader.proofs.Tested.{test_missed, test_refuses, test_refuses_sign, test_breaks, test_on, sought_found, zero_found_lem}
+use Rattle.reader.proofs.Tested.{test_missed, test_refuses, test_breaks, test_on, sought_found, zero_found_lem}
 
 -- a token that an atom cannot have here the machine does not take
 module _ (text : List ℕ) (t : Totals) where
@@ -139,26 +135,28 @@ module _ (text : List ℕ) (t : Totals) where
   mark_missed p q Word.Other h = refl
 
 -- a sign that compares nothing
-comparison_left : (p q : ℕ) (x : Sign) → ((a : Compared) → ¬ IsCompared (Token.Sign p q x) a) → OneOf (but (1 ∷ 2 ∷ []) 19) (tag_of sign-type.the_type x)
-comparison_left p q Sign.Becomes h = hit (but (1 ∷ 2 ∷ []) 19) 0 tt
-comparison_left p q Sign.Equals h = absurd (h _ same)
-comparison_left p q Sign.Differs h = absurd (h _ differs)
-comparison_left p q Sign.Not h = hit (but (1 ∷ 2 ∷ []) 19) 3 tt
-comparison_left p q Sign.And h = hit (but (1 ∷ 2 ∷ []) 19) 4 tt
-comparison_left p q Sign.Or h = hit (but (1 ∷ 2 ∷ []) 19) 5 tt
-comparison_left p q Sign.Increment h = hit (but (1 ∷ 2 ∷ []) 19) 6 tt
-comparison_left p q Sign.Decrement h = hit (but (1 ∷ 2 ∷ []) 19) 7 tt
-comparison_left p q Sign.Add h = hit (but (1 ∷ 2 ∷ []) 19) 8 tt
-comparison_left p q Sign.Subtract h = hit (but (1 ∷ 2 ∷ []) 19) 9 tt
-comparison_left p q Sign.Minus h = hit (but (1 ∷ 2 ∷ []) 19) 10 tt
-comparison_left p q Sign.OpenParen h = hit (but (1 ∷ 2 ∷ []) 19) 11 tt
-comparison_left p q Sign.CloseParen h = hit (but (1 ∷ 2 ∷ []) 19) 12 tt
-comparison_left p q Sign.OpenBrace h = hit (but (1 ∷ 2 ∷ []) 19) 13 tt
-comparison_left p q Sign.CloseBrace h = hit (but (1 ∷ 2 ∷ []) 19) 14 tt
-comparison_left p q Sign.OpenBracket h = hit (but (1 ∷ 2 ∷ []) 19) 15 tt
-comparison_left p q Sign.CloseBracket h = hit (but (1 ∷ 2 ∷ []) 19) 16 tt
-comparison_left p q Sign.Comma h = hit (but (1 ∷ 2 ∷ []) 19) 17 tt
-comparison_left p q Sign.Semicolon h = hit (but (1 ∷ 2 ∷ []) 19) 18 tt
+comparison_missed : (p q : ℕ) (x : Sign)
+    → ((a : Compared) → ¬ IsCompared (Token.Sign p q x) a)
+    → T (unlike Fixed.same (classify (sign (written x)))) × (T (unlike Fixed.differs (classify (sign (written x)))) × Unit {0})
+comparison_missed p q Sign.Becomes h = (tt, (tt, tt))
+comparison_missed p q Sign.Equals h = absurd (h _ same)
+comparison_missed p q Sign.Differs h = absurd (h _ differs)
+comparison_missed p q Sign.Not h = (tt, (tt, tt))
+comparison_missed p q Sign.And h = (tt, (tt, tt))
+comparison_missed p q Sign.Or h = (tt, (tt, tt))
+comparison_missed p q Sign.Increment h = (tt, (tt, tt))
+comparison_missed p q Sign.Decrement h = (tt, (tt, tt))
+comparison_missed p q Sign.Add h = (tt, (tt, tt))
+comparison_missed p q Sign.Subtract h = (tt, (tt, tt))
+comparison_missed p q Sign.Minus h = (tt, (tt, tt))
+comparison_missed p q Sign.OpenParen h = (tt, (tt, tt))
+comparison_missed p q Sign.CloseParen h = (tt, (tt, tt))
+comparison_missed p q Sign.OpenBrace h = (tt, (tt, tt))
+comparison_missed p q Sign.CloseBrace h = (tt, (tt, tt))
+comparison_missed p q Sign.OpenBracket h = (tt, (tt, tt))
+comparison_missed p q Sign.CloseBracket h = (tt, (tt, tt))
+comparison_missed p q Sign.Comma h = (tt, (tt, tt))
+comparison_missed p q Sign.Semicolon h = (tt, (tt, tt))
 
 module _ {text : List ℕ} where
   -- what `read` is compared with
@@ -173,11 +171,11 @@ module _ {text : List ℕ} where
       by_cases k r f (stands lend e) = rw e (sought_found equal o v Tree.lend (front_word f refl) (λ ts. Grammar.lend))
       by_cases k r f (stands rend e) = rw e (sought_found equal o v Tree.rend (front_word f refl) (λ ts. Grammar.rend))
       by_cases (Token.Word p q x) r f (other h) = test_missed f (λ t. mark_missed text t p q x h) refl
-      by_cases (Token.Number p q) r f (other h) = test_refuses f (λ t. hit (1 ∷ 3 ∷ 4 ∷ 5 ∷ []) 1 tt) refl
+      by_cases (Token.Number p q) r f (other h) = test_refuses f (λ t p. tt) refl
       by_cases (Token.Letter p q b) r f (other h) = absurd (h _ a_letter)
-      by_cases (Token.Sign p q x) r f (other h) = test_refuses f (λ t. hit (1 ∷ 3 ∷ 4 ∷ 5 ∷ []) 3 tt) refl
-      by_cases (Token.End p) r f (other h) = test_refuses f (λ t. hit (1 ∷ 3 ∷ 4 ∷ 5 ∷ []) 4 tt) refl
-      by_cases (Token.Broken p) r f (other h) = test_refuses f (λ t. hit (1 ∷ 3 ∷ 4 ∷ 5 ∷ []) 5 tt) refl
+      by_cases (Token.Sign p q x) r f (other h) = test_refuses f (λ t p. tt) refl
+      by_cases (Token.End p) r f (other h) = test_refuses f (λ t p. tt) refl
+      by_cases (Token.Broken p) r f (other h) = test_refuses f (λ t p. tt) refl
 
   -- what `c` is compared with: 0, or a number that is refused
   zero_tests : {from p q : ℕ} (equal : Bool) (o v : ℕ) (b : Bool)
@@ -194,12 +192,12 @@ module _ {text : List ℕ} where
     where
       by_cases : (k : Token) (r : AtomAnswer) → FirstToken text from k → NumeralSays text equal k r → Tests text from (λ ts. behind (w "c") o (behind (compared equal) v ts)) (number 0) r
       by_cases k r f (stands a_number e) = rw e (zero_tests equal o v _ f refl)
-      by_cases (Token.Word p q x) r f (other h) = test_refuses f (λ t. hit (but (1 ∷ []) 6) 0 tt) refl
+      by_cases (Token.Word p q x) r f (other h) = test_refuses f (λ t p. tt) refl
       by_cases (Token.Number p q) r f (other h) = absurd (h _ a_number)
-      by_cases (Token.Letter p q b) r f (other h) = test_refuses f (λ t. hit (but (1 ∷ []) 6) 2 tt) refl
-      by_cases (Token.Sign p q x) r f (other h) = test_refuses f (λ t. hit (but (1 ∷ []) 6) 3 tt) refl
-      by_cases (Token.End p) r f (other h) = test_refuses f (λ t. hit (but (1 ∷ []) 6) 4 tt) refl
-      by_cases (Token.Broken p) r f (other h) = test_refuses f (λ t. hit (but (1 ∷ []) 6) 5 tt) refl
+      by_cases (Token.Letter p q b) r f (other h) = test_refuses f (λ t p. tt) refl
+      by_cases (Token.Sign p q x) r f (other h) = test_refuses f (λ t p. tt) refl
+      by_cases (Token.End p) r f (other h) = test_refuses f (λ t p. tt) refl
+      by_cases (Token.Broken p) r f (other h) = test_refuses f (λ t p. tt) refl
 
   -- the comparison, behind `read` and behind `c`
   read_tests : {from : ℕ} {r : AtomAnswer} (o : ℕ)
@@ -210,12 +208,12 @@ module _ {text : List ℕ} where
       by_cases : (k : Token) (r : AtomAnswer) → FirstToken text from k → ComparedSays text ObjectSays k r → Tests text from (behind (w "read") o) read_test r
       by_cases k r f (stands (same {p = p}) third) = test_on (front_sign f refl) _ (λ t. refl) (λ t. refl) (λ t. refl) (object_tests true o p third)
       by_cases k r f (stands (differs {p = p}) third) = test_on (front_sign f refl) _ (λ t. refl) (λ t. refl) (λ t. refl) (object_tests false o p third)
-      by_cases (Token.Word p q x) r f (other h) = test_refuses f (λ t. hit (but (3 ∷ []) 6) 0 tt) refl
-      by_cases (Token.Number p q) r f (other h) = test_refuses f (λ t. hit (but (3 ∷ []) 6) 1 tt) refl
-      by_cases (Token.Letter p q b) r f (other h) = test_refuses f (λ t. hit (but (3 ∷ []) 6) 2 tt) refl
-      by_cases (Token.Sign p q x) r f (other h) = test_refuses_sign f refl (λ t. comparison_left p q x h) refl
-      by_cases (Token.End p) r f (other h) = test_refuses f (λ t. hit (but (3 ∷ []) 6) 4 tt) refl
-      by_cases (Token.Broken p) r f (other h) = test_refuses f (λ t. hit (but (3 ∷ []) 6) 5 tt) refl
+      by_cases (Token.Word p q x) r f (other h) = test_refuses f (λ t p. tt) refl
+      by_cases (Token.Number p q) r f (other h) = test_refuses f (λ t p. tt) refl
+      by_cases (Token.Letter p q b) r f (other h) = test_refuses f (λ t p. tt) refl
+      by_cases (Token.Sign p q x) r f (other h) = test_missed f (λ t. untaken_lem (choices t p read_test) _ (comparison_missed p q x h)) refl
+      by_cases (Token.End p) r f (other h) = test_refuses f (λ t p. tt) refl
+      by_cases (Token.Broken p) r f (other h) = test_refuses f (λ t p. tt) refl
 
   counter_tests : {from : ℕ} {r : AtomAnswer} (o : ℕ)
       → Next text from (λ k. ComparedSays text (NumeralSays text) k r)
@@ -225,12 +223,12 @@ module _ {text : List ℕ} where
       by_cases : (k : Token) (r : AtomAnswer) → FirstToken text from k → ComparedSays text (NumeralSays text) k r → Tests text from (behind (w "c") o) counter_test r
       by_cases k r f (stands (same {p = p}) third) = test_on (front_sign f refl) _ (λ t. refl) (λ t. refl) (λ t. refl) (numeral_tests true o p third)
       by_cases k r f (stands (differs {p = p}) third) = test_on (front_sign f refl) _ (λ t. refl) (λ t. refl) (λ t. refl) (numeral_tests false o p third)
-      by_cases (Token.Word p q x) r f (other h) = test_refuses f (λ t. hit (but (3 ∷ []) 6) 0 tt) refl
-      by_cases (Token.Number p q) r f (other h) = test_refuses f (λ t. hit (but (3 ∷ []) 6) 1 tt) refl
-      by_cases (Token.Letter p q b) r f (other h) = test_refuses f (λ t. hit (but (3 ∷ []) 6) 2 tt) refl
-      by_cases (Token.Sign p q x) r f (other h) = test_refuses_sign f refl (λ t. comparison_left p q x h) refl
-      by_cases (Token.End p) r f (other h) = test_refuses f (λ t. hit (but (3 ∷ []) 6) 4 tt) refl
-      by_cases (Token.Broken p) r f (other h) = test_refuses f (λ t. hit (but (3 ∷ []) 6) 5 tt) refl
+      by_cases (Token.Word p q x) r f (other h) = test_refuses f (λ t p. tt) refl
+      by_cases (Token.Number p q) r f (other h) = test_refuses f (λ t p. tt) refl
+      by_cases (Token.Letter p q b) r f (other h) = test_refuses f (λ t p. tt) refl
+      by_cases (Token.Sign p q x) r f (other h) = test_missed f (λ t. untaken_lem (choices t p counter_test) _ (comparison_missed p q x h)) refl
+      by_cases (Token.End p) r f (other h) = test_refuses f (λ t p. tt) refl
+      by_cases (Token.Broken p) r f (other h) = test_refuses f (λ t p. tt) refl
 
 -- the whole atom
 pub atom_tests : {r : Reader} {u : AtomAnswer} → OpensNothing r → AtomAt r.text.now r.at u → (n : ℕ) → Tests r.text.now r.at (λ ts. ts) (operand n) u

@@ -308,3 +308,7 @@ module _ {r z : Reader} {k : Class} {x : Expected} {w y : Stack} {a : List ℕ} 
         answers = onward (took_counted h w more picked free counts) g;
         past = past_lem r c u (omega (arith, further h, more.at_is)) g;
       }
+
+-- a token ends ahead, and in the text
+pub ahead : {text : List ℕ} {from p q : ℕ} {k : Class} → Front text from k p q → (from ≤ q) × (q ≤ length text)
+ahead f = (omega (arith, f.back, f.some), f.within)

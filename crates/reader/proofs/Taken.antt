@@ -8,8 +8,6 @@ use mathlib.Core.List.{List, [], ◌∷◌}
 use Rattle.std.specs.Prelude.{Result, Ok, Err}
 use Rattle.std.specs.Result.{result_or}
 use lib.Dec.{T}
-use denote.Enum.Declared.{tag_of}
-use types.Run.{OneOf, miss}
 use Rattle.text.specs.Token as Spelt
 use Rattle.text.specs.Token.{word, number, letter, sign}
 use Rattle.text.specs.Tokens.{Placed, ◌at◌}
@@ -17,7 +15,6 @@ use Rattle.text.specs.First.{Name, reserved, name, IsNamed, IsWord, written, par
 use Rattle.text.specs.declared.Word.{Word}
 use Rattle.text.specs.declared.Sign.{Sign}
 use Rattle.text.specs.declared.Token.{Token}
-use Rattle.text.specs.contracts.Token as token-type
 use Rattle.text.specs.Inside.Same.{same_token}
 use Rattle.text.proofs.Runs.{T_true}
 use Rattle.text.proofs.Same.{same_token_lem}
@@ -63,19 +60,19 @@ abbrev pub lacking : {r : Reader} (m : Fixed) (k : Token) → FirstToken r.text.
 lacking m k f h = record { token = k; first = f; none = λ p ts e. h (sym (spelt_lem k f) ∙ ap first_in e) }
 
 -- it is no word, or no sign
-pub no_word : (text : List ℕ) (k : Token) (l : List ℕ) → OneOf (1 ∷ 2 ∷ 3 ∷ 4 ∷ 5 ∷ []) (tag_of token-type.the_type k) → ¬ (spelt text k ≡ some (word l))
-no_word text (Token.Word p q x) l h e = miss (1 ∷ 2 ∷ 3 ∷ 4 ∷ 5 ∷ []) 0 tt h
+pub no_word : (text : List ℕ) (k : Token) (l : List ℕ) → ((p q : ℕ) (x : Word) → ¬ (k ≡ Token.Word p q x)) → ¬ (spelt text k ≡ some (word l))
+no_word text (Token.Word p q x) l h e = h p q x refl
 no_word text (Token.Number p q) l h e = cc
 no_word text (Token.Letter p q b) l h e = cc
 no_word text (Token.Sign p q x) l h e = cc
 no_word text (Token.End p) l h e = cc
 no_word text (Token.Broken p) l h e = cc
 
-pub no_sign : (text : List ℕ) (k : Token) (l : List ℕ) → OneOf (0 ∷ 1 ∷ 2 ∷ 4 ∷ 5 ∷ []) (tag_of token-type.the_type k) → ¬ (spelt text k ≡ some (sign l))
+pub no_sign : (text : List ℕ) (k : Token) (l : List ℕ) → ((p q : ℕ) (x : Sign) → ¬ (k ≡ Token.Sign p q x)) → ¬ (spelt text k ≡ some (sign l))
 no_sign text (Token.Word p q x) l h e = cc
 no_sign text (Token.Number p q) l h e = cc
 no_sign text (Token.Letter p q b) l h e = cc
-no_sign text (Token.Sign p q x) l h e = miss (0 ∷ 1 ∷ 2 ∷ 4 ∷ 5 ∷ []) 3 tt h
+no_sign text (Token.Sign p q x) l h e = h p q x refl
 no_sign text (Token.End p) l h e = cc
 no_sign text (Token.Broken p) l h e = cc
 
@@ -211,7 +208,7 @@ Untaken (on m o ∷ cs) c = T (unlike m c) × Untaken cs c
 Untaken (on_number o ∷ cs) c = ⊥
 Untaken (on_letter o ∷ cs) c = ⊥
 
-untaken_lem : {A : Type 0} (cs : List (Choice A)) (c : Class) → Untaken cs c → pick cs c ≡ none
+pub untaken_lem : {A : Type 0} (cs : List (Choice A)) (c : Class) → Untaken cs c → pick cs c ≡ none
 untaken_lem [] c h = refl
 untaken_lem (on m o ∷ cs) c h =
     let here = take_unlike m o c h.0 in

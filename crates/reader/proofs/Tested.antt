@@ -7,16 +7,12 @@ use mathlib.Core.Option.{some}
 use mathlib.Core.List.{List, [], ◌∷◌}
 use Rattle.std.specs.Prelude.{Option, Some, None, Ok, Err}
 use lib.ListN.{length}
-use denote.Enum.Declared.{tag_of}
-use types.Run.{OneOf}
+use lib.Dec.{T}
 use Rattle.text.specs.Token as Spelt
 use Rattle.text.specs.Token.{w}
 use Rattle.text.specs.Tokens.{◌at◌, Ending}
 use Rattle.text.specs.First.{FirstToken}
-use Rattle.text.specs.declared.Sign.{Sign}
 use Rattle.text.specs.declared.Token.{Token}
-use Rattle.text.specs.contracts.Sign as sign-type
-use Rattle.text.specs.contracts.Token as token-type
 use Rattle.text.proofs.Tokens.{tokens_once}
 use Rattle.rule.specs.Tree as Tree
 use Rattle.rule.specs.Tree.{Number}
@@ -41,8 +37,7 @@ use Rattle.atoms.specs.declared.Atom.{Atom}
 use Rattle.atoms.specs.Atom.{found}
 use Rattle.atoms.specs.Atom.{Read as AtomAnswer}
 use Rattle.reader.proofs.Moves.{goes, breaks, comes_stops}
-use Rattle.atoms.proofs.Arms.{values_left}
-use Rattle.reader.proofs.Missed.{Misses, missed, sorts_left, misses_sign, missed_sort, missed_sign}
+use Rattle.reader.proofs.Missed.{Misses, missed, untaken, sort_in, missed_sort}
 
 -- a token by its class
 front_token : {text : List ℕ} {from p q : ℕ} {k : Class} (f : Front text from k p q) → f.token ≡ token_of k
@@ -59,19 +54,10 @@ module _ {text : List ℕ} {from : ℕ} {lead : Ts → Ts} {x : Expected} where
 
   pub test_refuses : {k : Token} {r : Refusal}
       → FirstToken text from k
-      → ((t : Totals) → OneOf (sorts_left t x k) (tag_of token-type.the_type k))
+      → ((t : Totals) (p : ℕ) → T (untaken (choices t p x) (sort_in k)))
       → r ≡ refusal_of k
       → Tests text from lead x (Err r)
   test_refuses {k} f h right = test_missed f (λ t. missed_sort text x t k (h t)) right
-
-  pub test_refuses_sign : {k : Token} {r : Refusal} {p q : ℕ} {v : Sign}
-      → FirstToken text from k
-      → k ≡ Token.Sign p q v
-      → ((t : Totals) → OneOf (values_left sign-type.enum (misses_sign t x p)) (tag_of sign-type.the_type v))
-      → r ≡ record { reason = Reason.Misplaced; place = p }
-      → Tests text from lead x (Err r)
-  test_refuses_sign {p = p} {q = q} {v = v} f e h right =
-      test_missed (subst (λ (u : Token). FirstToken text from u) e f) (λ t. missed_sign text x t p q v (h t)) right
 
   module _ {p q : ℕ} {k : Class} (f : Front text from k p q) where
     -- a limit is broken

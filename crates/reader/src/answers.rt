@@ -79,10 +79,10 @@ impl<'a> Reader<'a> {
     {
         let token = token_at(self.text, self.at);
         let behind = match token {
-            Token::Word { end, .. } => self.onward(end),
-            Token::Number { end, .. } => self.onward(end),
-            Token::Letter { end, .. } => self.onward(end),
-            Token::Sign { end, .. } => self.onward(end),
+            Token::Word { end, .. }
+            | Token::Number { end, .. }
+            | Token::Letter { end, .. }
+            | Token::Sign { end, .. } => self.onward(end),
             Token::End { .. } | Token::Broken { .. } => self,
         };
         (token, behind)
@@ -99,7 +99,7 @@ impl<'a> Reader<'a> {
         }
     }
 
-    // One word and no other.
+    // One word and no other. This and `sign` stay two functions, since each reader takes its own sort of token apart by let .. else.
     pub fn word(self, wanted: Word) -> Result<Reader<'a>, Refusal>
         ensures { (l : List ℕ) (m : Fixed) → name wanted ≡ reserved l → spell m ≡ Spelt.word l → Takes m self.entry result }
     {

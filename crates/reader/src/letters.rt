@@ -1,4 +1,5 @@
-// The letters of the alphabet, in the setting's order: 16 at most.
+// The letters of the alphabet, in the setting's order: 16 at most. An array with its length, and no `ArrayVec` of the kit: that is not
+// `Copy`, so each scope would borrow it, which is no plainer.
 ghost use Rattle.std.specs.Prelude.{◌≡◌, ◌≤◌, length};
 
 #[derive(Clone, Copy)]

@@ -68,7 +68,8 @@ impl<'a> Reader<'a> {
     }
 }
 
-pub fn settings_of<'a>(text: &'a [u8]) -> Result<(Reader<'a>, Letters), Refusal>
+// The settings of a text, from its first byte on.
+pub fn settings_of(text: &[u8]) -> Result<(Reader<'_>, Letters), Refusal>
     requires { length text.now ≤ 4096 }
     ensures { AnswersWith text.now (spot 0 (program ∷ []) start) (body ∷ []) result }
 {

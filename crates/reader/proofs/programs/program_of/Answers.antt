@@ -5,7 +5,6 @@ use Rattle.atoms.proofs.Exits.{exit}
 use Rattle.reader.proofs.Moves.{went, arrives_on, stops_on, then, stop}
 use Rattle.reader.proofs.Listed.{with_went, with_stop}
 use Rattle.reader.proofs.Whole.{stopped, whole, more}
-use borrow.Enum.Refused.{opened}
 use Rattle.reader.proofs.programs.program_of.Goals as goal
 
 pub returns-in_err-settled : goal.returns-in_err-settled
@@ -42,7 +41,7 @@ returns-in_default c =
     (with_went c.settings_of.ensures c.in_ok-settled.was)
     (arrives_on (went [] (c.head.ensures (alphabet_of c.in_ok-settled.letters)) c.in_ok-head.was) (went [] (rw (c.new.ensures.1, c.new.ensures.0) at c.block.ensures) c.in_ok-reader.was)))
     in
-    more all.comes c.token_at-token.ensures (opened c.in_default.in_default-own.keys2) c.refuse.ensures
+    more all.comes c.token_at-token.ensures c.in_default.not-End c.refuse.ensures
 
 pub returns : goal.returns
 returns c =

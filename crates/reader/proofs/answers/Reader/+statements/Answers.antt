@@ -2,6 +2,7 @@
 -- byte: statements above a statement, arms and what is guarded above a block.
 use native.Mathlib.Omega.{arith}
 use mathlib.Core.Path.{refl, ap}
+use mathlib.Core.Logic.{⊎_elim}
 use mathlib.Core.List.{[]}
 use lib.ListN.{length}
 use Prim.Native.Nat.{ℕ, ◌<◌}
@@ -9,12 +10,10 @@ use Rattle.rule.specs.Inside.Class.{Fixed}
 use Rattle.reader.specs.Inside.Answers.{alphabet_of}
 use Rattle.atoms.proofs.Exits.{exit}
 use Rattle.reader.proofs.Moves.{here, went, arrives_on, arrived, onward, then, stop, over, took_with, took_counted, eats, eats_counted, room, nearer, counted_nearer, went_no_nearer}
-use Rattle.reader.proofs.Missed.{refuses_word}
 use Rattle.reader.proofs.Taken.{exactly, taken, missed_one, moved_word, this_word, refuses_unlike, refuses_both}
 use Rattle.reader.proofs.Depth.{full, shallow_lem, one_deeper, same_letters, break_here}
-use Rattle.reader.proofs.Branches.{no_statement, next_arm, ninth_arm}
+use Rattle.reader.proofs.Branches.{OtherWord, no_statement, no_statement_word, next_arm, ninth_arm}
 use Rattle.reader.proofs.Peek.{no_else_here, no_also_here}
-use borrow.Enum.Refused.{opened}
 use Rattle.reader.proofs.answers.Reader.+statements.Goals as goal
 
 pub block-returns-in_err-inside : goal.block-returns-in_err-inside
@@ -186,7 +185,7 @@ behind_branch-loop-also-preserved t c =
 
 pub statement-returns-in_default : goal.statement-returns-in_default
 statement-returns-in_default t c =
-    record { answers = no_statement c.requires c.next-token.ensures.first (opened c.in_default.in_default-own.keys2) c.refuse.ensures; past = tt }
+    record { answers = no_statement c.requires c.next-token.ensures.first c.in_default.not-Word c.refuse.ensures; past = tt }
 
 pub statement-counting-requires : goal.statement-counting-requires
 statement-counting-requires t c =
@@ -202,10 +201,6 @@ statement-counting-requires-in-C t c =
 
 pub statement-counting-requires-in-Accept : goal.statement-counting-requires-in-Accept
 statement-counting-requires-in-Accept t c =
-    room (moved_word c.next-token.ensures c.in-Word.is) (omega arith) (omega arith)
-
-pub statement-counting-requires-in-Reject : goal.statement-counting-requires-in-Reject
-statement-counting-requires-in-Reject t c =
     room (moved_word c.next-token.ensures c.in-Word.is) (omega arith) (omega arith)
 
 pub statement-counting-requires-in-If : goal.statement-counting-requires-in-If
@@ -242,11 +237,11 @@ statement-returns-in-C t c =
 
 pub statement-returns-in-Accept : goal.statement-returns-in-Accept
 statement-returns-in-Accept t c =
-    eats_counted (this_word c.next-token.ensures {m = Fixed.accept} c.in-Word.is c.in-Accept.is refl refl) c.counting-in-Accept.ensures refl refl refl (over _ (exactly (c.sign.ensures Fixed.semicolon refl)))
-
-pub statement-returns-in-Reject : goal.statement-returns-in-Reject
-statement-returns-in-Reject t c =
-    eats_counted (this_word c.next-token.ensures {m = Fixed.reject} c.in-Word.is c.in-Reject.is refl refl) c.counting-in-Reject.ensures refl refl refl (over _ (exactly (c.sign-in-Reject.ensures Fixed.semicolon refl)))
+    let ends = exactly (c.sign.ensures Fixed.semicolon refl) in
+    ⊎_elim
+    (λ e. eats_counted (this_word c.next-token.ensures {m = Fixed.accept} c.in-Word.is e refl refl) c.counting-in-Accept.ensures refl refl refl (over _ ends))
+    (λ e. eats_counted (this_word c.next-token.ensures {m = Fixed.reject} c.in-Word.is e refl refl) c.counting-in-Accept.ensures refl refl refl (over _ ends))
+    c.in-Accept.is
 
 pub statement-returns-in-If : goal.statement-returns-in-If
 statement-returns-in-If t c =
@@ -262,7 +257,20 @@ statement-returns-in-While t c =
 
 pub statement-returns-in_default-word : goal.statement-returns-in_default-word
 statement-returns-in_default-word t c =
-    record { answers = refuses_word c.next-token.ensures.first c.in-Word.is (opened c.in_default-word.in_default-word-own.keys9) c.refuse-in_default-word.ensures; past = tt }
+    let word = c.in_default-word in
+    let other : OtherWord c.in-Word.word =
+    record {
+      not_move = word.not-Move;
+      not_goto = word.not-Goto;
+      not_c = word.not-C;
+      not_accept = word.not-Accept;
+      not_reject = word.not-Reject;
+      not_if = word.not-If;
+      not_while = word.not-While;
+      not_branch = word.not-Branch;
+    }
+    in
+    record { answers = no_statement_word c.args.self c.next-token.ensures.first c.in-Word.is other c.refuse-in_default-word.ensures; past = tt }
 
 pub statements-loop-behind-init : goal.statements-loop-behind-init
 statements-loop-behind-init t c =

@@ -5,16 +5,15 @@ use Rattle.rule.specs.Inside.Machine.{excess}
 use Rattle.reader.specs.Inside.Answers.{alphabet_of}
 use Rattle.reader.proofs.Front.{front_letter}
 use Rattle.reader.proofs.Moves.{took_with, break}
-use Rattle.reader.proofs.Missed.{refuses}
+use Rattle.reader.proofs.Missed.{no_letter, refuses}
 use Rattle.reader.proofs.Taken.{moved_letter}
 use Rattle.reader.proofs.Alphabet.{repeated, seventeenth, another, with_letter_lem}
 use Rattle.reader.proofs.Listed.{with_refused}
-use borrow.Enum.Refused.{opened}
 use Rattle.reader.proofs.answers.Reader.letter.Goals as goal
 use Rattle.reader.proofs.answers.Reader.letter.Goals.{then-has-via-then-has, then-has-via-else-has+then-listed-eq16}
 
 pub returns-in_default : goal.returns-in_default
-returns-in_default c = with_refused (refuses c.next-token.ensures.first (opened c.in_default.in_default-own.keys2) c.refuse.ensures)
+returns-in_default c = with_refused (refuses c.next-token.ensures.first (λ p. no_letter _ c.in_default.not-Letter) c.refuse.ensures)
 
 pub returns-then-has : goal.returns-then-has
 returns-then-has c =

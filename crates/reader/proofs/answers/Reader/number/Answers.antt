@@ -2,13 +2,12 @@
 use mathlib.Core.Path.{refl, sym, ◌∙◌}
 use Rattle.reader.proofs.Front.{front_number}
 use Rattle.reader.proofs.Moves.{arrived, took_with, break}
-use Rattle.reader.proofs.Missed.{refuses}
+use Rattle.reader.proofs.Missed.{no_number, refuses}
 use Rattle.reader.proofs.Taken.{moved_number}
-use borrow.Enum.Refused.{opened}
 use Rattle.reader.proofs.answers.Reader.number.Goals as goal
 
 pub returns-in_default : goal.returns-in_default
-returns-in_default c = λ a. refuses c.next-token.ensures.first (opened c.in_default.in_default-own.keys2) c.refuse.ensures
+returns-in_default c = λ a. refuses c.next-token.ensures.first (λ p. no_number _ c.in_default.not-Number) c.refuse.ensures
 
 pub returns-then-out_of_range : goal.returns-then-out_of_range
 returns-then-out_of_range c =

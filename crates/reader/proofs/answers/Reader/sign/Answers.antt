@@ -5,13 +5,12 @@ use Rattle.text.specs.contracts.Sign.{the_type}
 use Rattle.atoms.specs.Atom.{refusal_of}
 use Rattle.reader.proofs.Taken.{missing, no_sign, another_sign, this_sign}
 use borrow.Author.Rules.{rules}
-use borrow.Enum.Refused.{opened}
 use Rattle.reader.proofs.answers.Reader.sign.Goals as goal
 
 pub returns-in_default : goal.returns-in_default
 returns-in_default c m spelt =
     record {
-      right = missing c.next-token.ensures.first spelt (no_sign _ _ _ (opened c.in_default.in_default-own.keys2)) c.refuse.ensures;
+      right = missing c.next-token.ensures.first spelt (no_sign _ _ _ c.in_default.not-Sign) c.refuse.ensures;
     }
 
 pub returns-then-eq : goal.returns-then-eq

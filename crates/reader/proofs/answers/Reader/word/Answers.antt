@@ -5,13 +5,12 @@ use Rattle.text.specs.contracts.Word.{the_type}
 use Rattle.atoms.specs.Atom.{refusal_of}
 use Rattle.reader.proofs.Taken.{missing, no_word, another_word, this_word}
 use borrow.Author.Rules.{rules}
-use borrow.Enum.Refused.{opened}
 use Rattle.reader.proofs.answers.Reader.word.Goals as goal
 
 pub returns-in_default : goal.returns-in_default
 returns-in_default c l m named spelt =
     record {
-      right = missing c.next-token.ensures.first spelt (no_word _ _ l (opened c.in_default.in_default-own.keys2)) c.refuse.ensures;
+      right = missing c.next-token.ensures.first spelt (no_word _ _ l c.in_default.not-Word) c.refuse.ensures;
     }
 
 pub returns-then-eq : goal.returns-then-eq
