@@ -49,7 +49,7 @@ use Rattle.construction.specs.Construction.{symbol_code, atom_rows}
 use Rattle.compiler.specs.Inside.Seeing.{Here, Behind}
 use Rattle.compiler.specs.Inside.Atoms.{read_rows, code_of, rows_of}
 use Rattle.compiler.proofs.Tags.{word_tag, sign_tag}
-use Rattle.compiler.proofs.Seeing.{word_in, sign_in, end_of, first_seen, seen_behind, seen_word, seen_sign, no_other, no_semicolon}
+use Rattle.compiler.proofs.Seeing.{word_in, sign_in, end_from, first_seen, seen_behind, seen_word, seen_sign, no_other, no_semicolon}
 
 -- the first of some tokens: its sort, its place, its byte
 abbrev sort_at : List Placed → ℕ
@@ -118,14 +118,14 @@ module _ (text : List ℕ) (us : Ts) (e : Ending) where
 
 -- what is said by a token that is known, and that the text goes on behind it
 pub record Told (text : List ℕ) (from : ℕ) (us : Ts) (Says : Token → Type 0) (k : Token) : Type 0 where
-  pub behind : Behind text from (end_of from k) us
+  pub behind : Behind text from (end_from from k) us
   pub says : Says k
 
 module _ {text : List ℕ} {from : ℕ} {us : Ts} {x : Placed} {Says : Token → Type 0} (n : Next text from Says) (h : Here text from (x ∷ us)) where
   told : (k : Token) → n.token ≡ k → Told text from us Says k
   told k e =
       record {
-        behind = subst (λ (t : Token). Behind text from (end_of from t) us) e (seen_behind (first_seen n.token n.first refl (x ∷ us) h));
+        behind = subst (λ (t : Token). Behind text from (end_from from t) us) e (seen_behind (first_seen n.token n.first refl (x ∷ us) h));
         says = subst Says e n.says;
       }
 

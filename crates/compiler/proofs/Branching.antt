@@ -4,7 +4,6 @@ use native.Mathlib.Omega.{arith}
 use mathlib.Core.Path.{◌≡◌, refl, sym, ap, subst}
 use mathlib.Core.List.{List, [], ◌∷◌, ◌++◌}
 use lib.ListN.{length}
-use types.Run.{OneOf}
 use Rattle.text.specs.Token.{w}
 use Rattle.text.specs.Tokens.{◌at◌}
 use Rattle.text.specs.declared.Word.{Word}
@@ -19,10 +18,9 @@ use Rattle.construction.specs.Construction.{free, Part, arm_part, and_then, stat
 use Rattle.compiler.specs.Inside.Writing.{Sheet, Room, Writes}
 use Rattle.compiler.specs.Inside.Seeing.{SeenAs, Sees}
 use Rattle.compiler.specs.Inside.Emission.{Doing, Emitted, rows_part, Follows, HeadedTask, closed_part, BodyTask, a_body, ArmsTask, the_arms}
-use Rattle.compiler.specs.declared.Place.{Place}
-use Rattle.compiler.specs.declared.see.Seen.{Seen}
+use Rattle.compiler.specs.Inside.Place.{Place}
+use Rattle.compiler.specs.Inside.Seeing.{Seen}
 use Rattle.construction.proofs.Counts.{statements_next, arms_next}
-use Rattle.compiler.proofs.Tags.{word_tag, word_tags, none_of}
 use Rattle.compiler.proofs.Seeing.{seen_word}
 use Rattle.compiler.proofs.Emission.{at_moved, fits_first, fits_then, emitted_as}
 use Rattle.compiler.proofs.Stepping.{headed_of}
@@ -111,11 +109,11 @@ record NoAlso (first : Part) (ts us : Ts) (part : Part) : Type 0 where
 no_also_lem : {text : List ℕ} {from k e b : ℕ} {x : Word} {g : Sign} {to : ℕ} {alphabet : List ℕ} {p : ℕ} {first : Part} {ts us : Ts} {part : Part}
     → ArmsEnd to alphabet p first ts us part
     → SeenAs text from ts x g b k e
-    → OneOf (word_tags (18 ∷ [])) (word_tag x)
+    → (x ≡ Word.Also → ⊥)
     → NoAlso first ts us part
 no_also_lem (last follows) seen other = record { same = refl; is = refl }
 no_also_lem {x = x} (more t grows) seen other =
-    absurd (none_of (word_tags (18 ∷ [])) (word_tag x) 18 tt other (ap word_tag (seen_word Word.Also seen refl)))
+    absurd (other (seen_word Word.Also seen refl))
 
 -- and else there are more
 pub record MoreArms (to : ℕ) (alphabet : List ℕ) (p : ℕ) (first : Part) (ts us : Ts) (part : Part) : Type 0 where
@@ -172,7 +170,7 @@ module _ {text out : List ℕ} {place : Place} {to : ℕ} {h : Sheet} {accepting
     first_emitted : Emitted text middle arm h accepting rows arms_here.behind first_arm_lem
     first_emitted = emitted_then (arm_row place.state place.next) arms_here.arm e
 
-    pub arms_last : OneOf (word_tags (18 ∷ [])) (word_tag t.word) → Emitted text middle arm h accepting rows us part
+    pub arms_last : (t.word ≡ Word.Also → ⊥) → Emitted text middle arm h accepting rows us part
     arms_last other =
         let n = no_also_lem arms_here.end (sees.stands arms_here.behind e.stands.here) other in
         emitted_as n.is (subst (λ (xs : Ts). Emitted text middle arm h accepting rows xs first_arm_lem) n.same first_emitted)

@@ -7,7 +7,6 @@ use mathlib.Core.Bool.{not}
 use mathlib.Core.List.{List, [], ◌∷◌, ◌++◌, append-nil, append_assoc}
 use lib.ListN.{length, drop}
 use lib.Dec.{T, eqb}
-use types.Run.{OneOf}
 use Rattle.text.specs.Token.{Token, word, w, s}
 use Rattle.text.specs.Tokens.{◌at◌}
 use Rattle.text.specs.First.{IsWord}
@@ -23,10 +22,10 @@ use Rattle.construction.specs.Construction.{free, Part, test, if_part, loop_part
 use Rattle.compiler.specs.Inside.Writing.{Sheet, Filled, Room, Writes}
 use Rattle.compiler.specs.Inside.Seeing.{Here, Behind, SeenAs, Sees, GoesPast}
 use Rattle.compiler.specs.Inside.Emission.{At, Task, Doing, Emitted, rows_part, TestTask, tests, EntryTask, chooses, asks, Follows, HeadedTask, RestTask, the_rest, closed_part, BodyTask, a_body, ElseTask, an_else}
-use Rattle.compiler.specs.declared.Place.{Place}
-use Rattle.compiler.specs.declared.see.Seen.{Seen}
+use Rattle.compiler.specs.Inside.Place.{Place}
+use Rattle.compiler.specs.Inside.Seeing.{Seen}
 use Rattle.construction.proofs.Counts.{test_next, rest_next, statements_next}
-use Rattle.compiler.proofs.Tags.{word_tag, word_tags, none_of}
+use Rattle.compiler.proofs.Tags.{word_tag}
 use Rattle.compiler.proofs.Seeing.{here_some, seen_word, word_at}
 use Rattle.compiler.proofs.Emission.{
   at_room,
@@ -252,12 +251,12 @@ record NoElse (to p next : ℕ) (ts us : Ts) (part : Part) : Type 0 where
 no_else_lem : {text : List ℕ} {from k e b : ℕ} {x : Word} {g : Sign} {to : ℕ} {alphabet : List ℕ} {p next : ℕ} {ts us : Ts} {part : Part}
     → ElseTask to alphabet p next ts us part
     → SeenAs text from ts x g b k e
-    → OneOf (word_tags (14 ∷ [])) (word_tag x)
+    → (x ≡ Word.Else → ⊥)
     → NoElse to p next ts us part
 unfolding rest_part
 no_else_lem (an_else nothing follows within below) seen other = record { same = refl; below = below; is = refl }
 no_else_lem {x = x} (an_else (else b) follows within below) seen other =
-    absurd (none_of (word_tags (14 ∷ [])) (word_tag x) 14 tt other (ap word_tag (seen_word Word.Else seen refl)))
+    absurd (other (seen_word Word.Else seen refl))
 
 module _ {text out : List ℕ} {place : Place} {to : ℕ} {t : Seen} (sees : Sees text place.at t)
     {h : Sheet} {accepting : List ℕ} {rows : List Row} {p next : ℕ} {ts us : Ts} {part : Part}
@@ -278,7 +277,7 @@ module _ {text out : List ℕ} {place : Place} {to : ℕ} {t : Seen} (sees : See
     pub else_onward : (place.at < t.end) × (t.end ≤ length text)
     else_onward = (else_here.behind.onward, else_here.behind.within)
 
-  module _ (other : OneOf (word_tags (14 ∷ [])) (word_tag t.word)) where
+  module _ (other : (t.word ≡ Word.Else → ⊥)) where
     abbrev without : NoElse to p next ts us part
     without = no_else_lem d.is (sees.stands ts d.stands.here) other
 
@@ -413,16 +412,16 @@ choice (chooses inside outside) = record { same = refl; is = refl; inside = insi
 asked_only : {text : List ℕ} {from k e b : ℕ} {x : Word} {g : Sign} {into over : ℕ} {alphabet : List ℕ} {p next : ℕ} {ts us : Ts} {part : Part}
     → EntryTask into over alphabet p next ts us part
     → SeenAs text from ts x g b k e
-    → OneOf (word_tags (16 ∷ [])) (word_tag x)
+    → (x ≡ Word.Choose → ⊥)
     → TestTask into over alphabet p next ts us part
 asked_only {x = x} (chooses inside outside) seen other =
-    absurd (none_of (word_tags (16 ∷ [])) (word_tag x) 16 tt other (ap word_tag (seen_word Word.Choose seen refl)))
+    absurd (other (seen_word Word.Choose seen refl))
 asked_only (asks t) seen other = t
 
 module _ {text out : List ℕ} {place : Place} {into over : ℕ} {t : Seen} (sees : Sees text place.at t)
     {h : Sheet} {accepting : List ℕ} {rows : List Row} {p next : ℕ} {ts us : Ts} {part : Part}
     (d : Doing (EntryTask into over) text out place h accepting rows p next ts us part) where
-  pub entry_asks : OneOf (word_tags (16 ∷ [])) (word_tag t.word) → Doing (TestTask into over) text out place h accepting rows p next ts us part
+  pub entry_asks : (t.word ≡ Word.Choose → ⊥) → Doing (TestTask into over) text out place h accepting rows p next ts us part
   entry_asks other =
       record { stands = d.stands; is = asked_only d.is (sees.stands ts d.stands.here) other; states = d.states; fits = d.fits }
 

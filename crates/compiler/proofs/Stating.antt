@@ -21,16 +21,33 @@ use Rattle.rule.proofs.Invert.{Stop, stops, statement_accept, statement_reject, 
 use Rattle.rule.specs.Inside.Within.{StatementsWithin}
 use Rattle.construction.specs.Construction.{Part, and_then, statement_part, statements_part}
 use Rattle.compiler.specs.Inside.Writing.{Sheet, Holds, Filled, Marks}
-use Rattle.compiler.specs.Inside.Seeing.{Here, SeenAs, Sees}
-use Rattle.compiler.specs.Inside.Emission.{At, Doing, Emitted, rows_part, Follows, StatementTask, a_statement, HeadedTask, headed, Stops, RestTask, the_rest}
-use Rattle.compiler.specs.declared.Place.{Place}
-use Rattle.compiler.specs.declared.see.Seen.{Seen}
+use Rattle.compiler.specs.Inside.Seeing.{Here, Seen, SeenAs, Sees, SeesWord, SeesSign, NotSign, GoesPast, AtWord}
+use Rattle.compiler.specs.Inside.Place.{Place, place_of}
+use Rattle.compiler.specs.Inside.Emission.{At, Doing, Ready, Emitted, rows_part, Follows, StatementTask, a_statement, HeadedTask, headed, Stops, RestTask, the_rest}
+use Rattle.compiler.specs.declared.Emitter.{Emitter}
+use Rattle.compiler.specs.declared.see.Cursor.{Cursor}
 use Rattle.construction.proofs.Counts.{statements_next}
 use Rattle.compiler.proofs.Tags.{word_tag, sign_tag, word_tags, sign_tags, none_of}
 use Rattle.compiler.proofs.Seeing.{here_some, seen_word, seen_sign, SignAt, sign_at}
 use Rattle.compiler.proofs.Emission.{at_moved, fits_first, fits_then, emitted_as}
 use Rattle.compiler.proofs.Stepping.{headed_of}
 use Rattle.compiler.proofs.Nesting.{nothing_emitted, emitted_then, HeadAt, head_at}
+
+-- a state is taken, past one token
+pub record Stopping (text : List ℕ) (place r : Place) : Type 0 where
+  pub passes : GoesPast text place.at 1 r.at
+  pub state : r.state ≡ place.next
+  pub takes : r.next ≡ place.next + 1
+  pub row : r.row ≡ place.row
+
+pub stopping : {e r : Emitter} {text : List ℕ} → e.cursor.text.now ≡ text → Stops e r → Stopping text (place_of e) (place_of r)
+stopping {e} {r} same st =
+    record {
+      passes = subst (λ (t : List ℕ). GoesPast t e.cursor.at 1 r.cursor.at) same st.passes;
+      state = st.state;
+      takes = st.takes;
+      row = st.row;
+    }
 
 -- accept and reject take a state
 abbrev stop_part : List ℕ → ℕ → Part
@@ -40,7 +57,7 @@ module _ {text before : List ℕ} {place : Place} {h : Sheet} {accepting : List 
     (stands : At text before place h accepting rows p next ((s ";" at v) ∷ us)) where
   stopped : {after : List ℕ} {r : Place} (states : List ℕ)
       → Filled h (accepting ++ states) rows after place.row
-      → Stops text place r
+      → Stopping text place r
       → Emitted text after r h accepting rows us (stop_part states next)
   stopped {after} {r} states filled st =
       record {
@@ -53,7 +70,7 @@ module _ {text before : List ℕ} {place : Place} {h : Sheet} {accepting : List 
         };
       }
 
-  stop_on : {r : Place} → Stops text place r → place.at ≤ r.at
+  stop_on : {r : Place} → Stopping text place r → place.at ≤ r.at
   stop_on st = omega (arith, (st.passes.behind _ stands.here (omega arith)).onward)
 
 -- `accept ;` and `reject ;` behind their word
@@ -81,7 +98,7 @@ module _ {text out : List ℕ} {place : Place} {h : Sheet} {accepting : List ℕ
     pub accept_few : place.next ≤ 128
     accept_few = omega (arith, d.stands.takes, ap (λ (x : Part). x.next) accept_of.is, d.states)
 
-    pub accept_emitted : {after : List ℕ} {r : Place} → Marks out after place.state → Stops text place r → Emitted text after r h accepting rows us part
+    pub accept_emitted : {after : List ℕ} {r : Place} → Marks out after place.state → Stopping text place r → Emitted text after r h accepting rows us part
     accept_emitted {after} marks st =
         emitted_as accept_of.is
         (stopped accept_stands (p ∷ [])
@@ -91,7 +108,7 @@ module _ {text out : List ℕ} {place : Place} {h : Sheet} {accepting : List ℕ
         })
         st)
 
-    pub accept_onward : {r : Place} → Stops text place r → place.at ≤ r.at
+    pub accept_onward : {r : Place} → Stopping text place r → place.at ≤ r.at
     accept_onward st = stop_on accept_stands st
 
   module _ (d : Doing (HeadedTask (w "reject")) text out place h accepting rows p next ts us part) where
@@ -105,14 +122,14 @@ module _ {text out : List ℕ} {place : Place} {h : Sheet} {accepting : List ℕ
     pub reject_few : place.next ≤ 128
     reject_few = omega (arith, d.stands.takes, ap (λ (x : Part). x.next) reject_of.is, d.states)
 
-    pub reject_emitted : {r : Place} → Stops text place r → Emitted text out r h accepting rows us part
+    pub reject_emitted : {r : Place} → Stopping text place r → Emitted text out r h accepting rows us part
     reject_emitted st =
         emitted_as reject_of.is
         (stopped reject_stands []
         (subst (λ (a : List ℕ). Filled h a rows out place.row) (sym (append-nil accepting)) d.stands.filled)
         st)
 
-    pub reject_onward : {r : Place} → Stops text place r → place.at ≤ r.at
+    pub reject_onward : {r : Place} → Stopping text place r → place.at ≤ r.at
     reject_onward st = stop_on reject_stands st
 
 -- a statement by its first word
@@ -185,25 +202,36 @@ pub unnamed : {text out : List ℕ} {place : Place} {t : Seen} (sees : Sees text
     → HeadAt text place.at t.end (w "branch") ts
 unnamed sees d other = named sees d Word.Branch _ (λ bytes which. which) tt (task_left d.is (word_seen sees d) other)
 
--- where a statement stands there is text
-statement_some : {text : List ℕ} {from : ℕ} {ts us : Ts} {a : Statement} → IsStatement ts a us → Here text from ts → from < length text
-statement_some (Grammar.plain Grammar.move_by) here = here_some here
-statement_some (Grammar.plain Grammar.move_back) here = here_some here
-statement_some (Grammar.plain Grammar.goto_lend) here = here_some here
-statement_some (Grammar.plain Grammar.goto_rend) here = here_some here
-statement_some (Grammar.plain Grammar.increment) here = here_some here
-statement_some (Grammar.plain Grammar.decrement) here = here_some here
-statement_some (Grammar.plain Grammar.add) here = here_some here
-statement_some (Grammar.plain Grammar.subtract) here = here_some here
-statement_some Grammar.accept here = here_some here
-statement_some Grammar.reject here = here_some here
-statement_some (Grammar.if c b e) here = here_some here
-statement_some (Grammar.while c b) here = here_some here
-statement_some (Grammar.choose b) here = here_some here
-statement_some (Grammar.branch b a) here = here_some here
+-- where a statement stands there is a word
+record WordStands (text : List ℕ) (from : ℕ) : Type 0 where
+  pub bytes : List ℕ
+  pub place : ℕ
+  pub us : Ts
+  pub here : Here text from ((word bytes at place) ∷ us)
 
-pub task_some : {text : List ℕ} {from : ℕ} {alphabet : List ℕ} {p next : ℕ} {ts us : Ts} {part : Part} → StatementTask alphabet p next ts us part → Here text from ts → from < length text
-task_some (a_statement d follows within) here = statement_some d here
+statement_word : {text : List ℕ} {from : ℕ} {ts us : Ts} {a : Statement} → IsStatement ts a us → Here text from ts → WordStands text from
+statement_word (Grammar.plain Grammar.move_by) here = record { bytes = _; place = _; us = _; here = here }
+statement_word (Grammar.plain Grammar.move_back) here = record { bytes = _; place = _; us = _; here = here }
+statement_word (Grammar.plain Grammar.goto_lend) here = record { bytes = _; place = _; us = _; here = here }
+statement_word (Grammar.plain Grammar.goto_rend) here = record { bytes = _; place = _; us = _; here = here }
+statement_word (Grammar.plain Grammar.increment) here = record { bytes = _; place = _; us = _; here = here }
+statement_word (Grammar.plain Grammar.decrement) here = record { bytes = _; place = _; us = _; here = here }
+statement_word (Grammar.plain Grammar.add) here = record { bytes = _; place = _; us = _; here = here }
+statement_word (Grammar.plain Grammar.subtract) here = record { bytes = _; place = _; us = _; here = here }
+statement_word Grammar.accept here = record { bytes = _; place = _; us = _; here = here }
+statement_word Grammar.reject here = record { bytes = _; place = _; us = _; here = here }
+statement_word (Grammar.if c b e) here = record { bytes = _; place = _; us = _; here = here }
+statement_word (Grammar.while c b) here = record { bytes = _; place = _; us = _; here = here }
+statement_word (Grammar.choose b) here = record { bytes = _; place = _; us = _; here = here }
+statement_word (Grammar.branch b a) here = record { bytes = _; place = _; us = _; here = here }
+
+task_word : {text : List ℕ} {from : ℕ} {alphabet : List ℕ} {p next : ℕ} {ts us : Ts} {part : Part} → StatementTask alphabet p next ts us part → Here text from ts → WordStands text from
+task_word (a_statement d follows within) here = statement_word d here
+
+pub statement_at_word : {e : Emitter} → Ready StatementTask e → AtWord e.cursor
+statement_at_word needs =
+    let w = task_word needs.doing.is needs.doing.stands.here in
+    record { bytes = w.bytes; place = w.place; us = w.us; here = w.here }
 
 -- the rest of a block, where its brace stands
 record Ended (p next : ℕ) (ts us : Ts) (part : Part) : Type 0 where
@@ -237,11 +265,11 @@ follows_rest {q} {us} {vs} {b} d =
 pub statement_then : {text : List ℕ} {from k e b : ℕ} {x : Word} {g : Sign} {alphabet : List ℕ} {p next : ℕ} {ts us : Ts} {part : Part}
     → RestTask alphabet p next ts us part
     → SeenAs text from ts x g b k e
-    → OneOf (sign_tags (14 ∷ [])) (sign_tag g)
+    → (g ≡ Sign.CloseBrace → ⊥)
     → StatementThen alphabet p next ts us part
 unfolding statements_part StatementsWithin
 statement_then {g = g} (the_rest Grammar.none within) seen other =
-    absurd (none_of (sign_tags (14 ∷ [])) (sign_tag g) 14 tt other (ap sign_tag (seen_sign Sign.CloseBrace seen refl)))
+    absurd (other (seen_sign Sign.CloseBrace seen refl))
 statement_then {alphabet = alphabet} {p = p} {next = n} (the_rest (Grammar.next {a = a} {b = b} d e) (within, later)) seen other =
     let first = statement_part alphabet a p n in
     record {
@@ -270,7 +298,7 @@ module _ {text out : List ℕ} {place : Place} {t : Seen} (sees : Sees text plac
         emitted_as e.is
         (nothing_emitted (at_moved t.end d.stands (subst (Here text t.end) e.same brace_here.behind.here)))
 
-  module _ (other : OneOf (sign_tags (14 ∷ [])) (sign_tag t.sign)) where
+  module _ (other : (t.sign ≡ Sign.CloseBrace → ⊥)) where
     abbrev then_here : StatementThen h.alphabet p next ts us part
     then_here = statement_then d.is (sees.stands ts d.stands.here) other
 
@@ -307,4 +335,4 @@ module _ {text out : List ℕ} {place : Place} {t : Seen} (sees : Sees text plac
       then_emitted f = emitted_as then_here.is (emitted_then then_here.first then_here.later f)
 
     pub rest_some : place.at < length text
-    rest_some = task_some then_here.statement d.stands.here
+    rest_some = here_some (task_word then_here.statement d.stands.here).here
