@@ -1,12 +1,12 @@
 -- What an atom's tokens say, one after the other, and that they say one thing only.
 use Prim.Native.Nat.{ℕ}
 use mathlib.Core.Path.{◌≡◌, refl, sym, ap, ◌∙◌, subst}
-use mathlib.Core.Bool.{Bool, true, false, not, ◌&&◌}
+use mathlib.Core.Bool.{Bool, true, false, not}
 use mathlib.Core.List.{List, [], ◌∷◌}
-use lib.Dec.{leb}
+use Rattle.std.specs.Prelude.{Result, Ok, Err}
 use mir.Val.{has_key}
 use denote.Enum.Declared.{tag_of}
-use types.Run.{OneOf, hit, miss}
+use types.Run.{OneOf, miss}
 use Rattle.text.specs.First.{FirstToken}
 use Rattle.text.specs.declared.Word.{Word}
 use Rattle.text.specs.declared.Sign.{Sign}
@@ -15,60 +15,27 @@ use Rattle.text.specs.contracts.Sign as sign-type
 use Rattle.text.specs.contracts.Word as word-type
 use Rattle.text.specs.contracts.Token as token-type
 use Rattle.text.proofs.Once.{first_once}
-use Rattle.rule.specs.Limits.{value_from, in_form}
-use Rattle.atoms.specs.Atom.{
-  refusal_of,
-  Next,
-  Case,
-  stands,
-  other,
-  Tested,
-  letter_read,
-  counter,
-  IsTested,
-  by_read,
-  by_c,
-  Compared,
-  IsCompared,
-  same,
-  differs,
-  Object,
-  IsObject,
-  a_letter,
-  lend,
-  rend,
-  Numeral,
-  IsNumeral,
-  a_number,
-  zero_found,
-  zero_read,
-  ObjectSays,
-  NumeralSays,
-  ComparedSays,
-  TestedSays,
-  AtomAt,
-}
-use Rattle.atoms.specs.Inside.Letter.{letter_of}
-use Rattle.atoms.specs.declared.Refusal.{Refusal}
+use Rattle.table.specs.declared.reason.Refusal.{Refusal}
+use Rattle.atoms.specs.Atom.{refusal_of, Read, Next, Case, stands, other, Tested, letter_read, counter, IsTested, by_read, by_c, Compared, IsCompared, same, differs, Object, IsObject, a_letter, lend, rend, Numeral, IsNumeral, a_number, found, zero_found, ObjectSays, NumeralSays, ComparedSays, TestedSays, AtomAt}
+use Rattle.atoms.specs.Inside.Parts.{ComparisonSays, SymbolSays, behind_zero, ZeroSays}
+use Rattle.atoms.specs.declared.Symbol.{Symbol}
 use Rattle.atoms.specs.declared.Atom.TheVariants as Atom
-use Rattle.atoms.specs.declared.AtomRead.{AtomRead}
-use Rattle.atoms.specs.declared.AtomRead.TheVariants.{Found, Refused}
 use Rattle.atoms.proofs.Arms.{passing}
 
 -- a relation that gives one value at most
 abbrev Once : {A B : Type 0} → (A → B → Type 0) → Type 0
 Once {A} {B} R = (a : A) (x y : B) → R a x → R a y → x ≡ y
 
-next_once : {text : List ℕ} {from : ℕ} (Says : Token → AtomRead → Type 0)
+next_once : {text : List ℕ} {from : ℕ} (Says : Token → Read → Type 0)
     → Once Says
-    → (r s : AtomRead)
+    → (r s : Read)
     → Next text from (λ t. Says t r)
     → Next text from (λ t. Says t s)
     → r ≡ s
 next_once Says one r s x y =
     one x.token r s x.says (subst (λ (t : Token). Says t s) (first_once y.first x.first) y.says)
 
-case_once : {A : Type 0} (StandsFor : Token → A → Type 0) (Says : A → AtomRead → Type 0) → Once StandsFor → Once Says → Once (Case StandsFor Says)
+case_once : {A : Type 0} (StandsFor : Token → A → Type 0) (Says : A → Read → Type 0) → Once StandsFor → Once Says → Once (Case StandsFor Says)
 case_once StandsFor Says one then t r s (stands {a = a} i x) (stands {a = b} j y) = then a r s x (subst (λ c. Says c s) (one t b a j i) y)
 case_once StandsFor Says one then t r s (stands i x) (other h) = absurd (h _ i)
 case_once StandsFor Says one then t r s (other h) (stands i x) = absurd (h _ i)
@@ -97,7 +64,7 @@ module _ (text : List ℕ) where
   numeral_says_once : (equal : Bool) → Once (NumeralSays text equal)
   numeral_says_once equal = case_once IsNumeral _ numeral_once (λ n r s e f. e ∙ sym f)
 
-  compared_says_once : (third : Bool → Token → AtomRead → Type 0) → ((equal : Bool) → Once (third equal)) → Once (ComparedSays text third)
+  compared_says_once : (third : Bool → Token → Read → Type 0) → ((equal : Bool) → Once (third equal)) → Once (ComparedSays text third)
   compared_says_once third one = case_once IsCompared _ compared_once (λ c r s x y. next_once (third c.equal) (one c.equal) r s x y)
 
   tested_says_once : Once (TestedSays text)
@@ -106,39 +73,56 @@ module _ (text : List ℕ) where
       next_once (ComparedSays text (NumeralSays text)) (compared_says_once (NumeralSays text) numeral_says_once) r s x y
 
 -- no second answer fits
-pub atom_once : {text : List ℕ} {from : ℕ} {r s : AtomRead} → AtomAt text from r → AtomAt text from s → r ≡ s
+pub atom_once : {text : List ℕ} {from : ℕ} {r s : Read} → AtomAt text from r → AtomAt text from s → r ≡ s
 atom_once {text} x y = next_once (Case IsTested (TestedSays text)) (case_once IsTested (TestedSays text) tested_once (tested_says_once text)) _ _ x.right y.right
 
-module _ {text : List ℕ} {from : ℕ} {A : Type 0} {StandsFor : Token → A → Type 0} {Says : A → AtomRead → Type 0} {k : Token} (f : FirstToken text from k) where
+module _ {A R : Type 0} {StandsFor : Token → A → Type 0} {Says : A → Result R Refusal → Type 0} {k : Token} where
   -- a token that stands for something
-  pub next_stands : {r : AtomRead} (j : Token) (a : A) → k ≡ j → StandsFor j a → Says a r → Next text from (λ t. Case StandsFor Says t r)
-  next_stands j a e i x = record { token = j; first = subst (FirstToken text from) e f; says = stands i x }
+  pub case_stands : {r : Result R Refusal} (j : Token) (a : A) → k ≡ j → StandsFor j a → Says a r → Case StandsFor Says k r
+  case_stands {r} j a e i x = subst (λ (t : Token). Case StandsFor Says t r) (sym e) (stands i x)
 
   -- a word, or a sign, that is told
-  pub next_word : {r : AtomRead} {p q : ℕ} {x y : Word} (a : A)
+  pub case_word : {r : Result R Refusal} {p q : ℕ} {x y : Word} (a : A)
       → k ≡ Token.Word p q x
       → x ≡ y
       → StandsFor (Token.Word p q y) a
       → Says a r
-      → Next text from (λ t. Case StandsFor Says t r)
-  next_word {p = p} {q = q} {y = y} a e told i x = next_stands (Token.Word p q y) a (e ∙ ap (λ (v : Word). Token.Word p q v) told) i x
+      → Case StandsFor Says k r
+  case_word {p = p} {q = q} {y = y} a e told i x = case_stands (Token.Word p q y) a (e ∙ ap (λ (v : Word). Token.Word p q v) told) i x
 
-  pub next_sign : {r : AtomRead} {p q : ℕ} {x y : Sign} (a : A)
+  pub case_sign : {r : Result R Refusal} {p q : ℕ} {x y : Sign} (a : A)
       → k ≡ Token.Sign p q x
       → x ≡ y
       → StandsFor (Token.Sign p q y) a
       → Says a r
-      → Next text from (λ t. Case StandsFor Says t r)
-  next_sign {p = p} {q = q} {y = y} a e told i x = next_stands (Token.Sign p q y) a (e ∙ ap (λ (v : Sign). Token.Sign p q v) told) i x
+      → Case StandsFor Says k r
+  case_sign {p = p} {q = q} {y = y} a e told i x = case_stands (Token.Sign p q y) a (e ∙ ap (λ (v : Sign). Token.Sign p q v) told) i x
 
   -- and one that stands for nothing
-  pub next_other : {r : Refusal} (j : Token) → k ≡ j → ((a : A) → ¬ StandsFor j a) → r ≡ refusal_of j → Next text from (λ t. Case StandsFor Says t (Refused r))
-  next_other j e h right =
-      record {
-        token = j;
-        first = subst (FirstToken text from) e f;
-        says = subst (λ (u : Refusal). Case StandsFor Says j (Refused u)) (sym right) (other h);
-      }
+  pub case_other : {r : Refusal} (j : Token) → k ≡ j → ((a : A) → ¬ StandsFor j a) → r ≡ refusal_of j → Case StandsFor Says k (Err r)
+  case_other {r} j e h right = subst (λ (t : Token). Case StandsFor Says t (Err r)) (sym e) (rw right (other h))
+
+-- the first token from a byte on says this
+pub next : {text : List ℕ} {from : ℕ} {k : Token} {Says : Token → Type 0} → FirstToken text from k → Says k → Next text from Says
+next {k = k} f h = record { token = k; first = f; says = h }
+
+-- what is read of a token goes into what is answered, and so does its refusal
+module _ {A R S : Type 0} {StandsFor : Token → A → Type 0} {Part : A → Result R Refusal → Type 0} {Says : A → Result S Refusal → Type 0} {k : Token} where
+  pub case_ok : {r : Result R Refusal} {v : R} {s : Result S Refusal}
+      → Case StandsFor Part k r
+      → r ≡ Ok v
+      → ((a : A) → Part a (Ok v) → Says a s)
+      → Case StandsFor Says k s
+  case_ok (stands {a = a} i x) e on = stands i (on a (subst (Part a) e x))
+  case_ok (other h) e on = absurd cc
+
+  pub case_err : {r : Result R Refusal} {d : Refusal}
+      → Case StandsFor Part k r
+      → r ≡ Err d
+      → ((a : A) → Part a (Err d) → Says a (Err d))
+      → Case StandsFor Says k (Err d)
+  case_err (stands {a = a} i x) e on = stands i (on a (subst (Part a) e x))
+  case_err {d = d} (other h) e on = case_other k refl h cc
 
 -- so many numbers but for these
 abbrev pub but : List ℕ → ℕ → List ℕ
@@ -170,35 +154,54 @@ other_mark x h a lend = miss (but (8 ∷ 9 ∷ []) 21) 8 tt h
 other_mark x h a rend = miss (but (8 ∷ 9 ∷ []) 21) 9 tt h
 
 -- what is no word and no letter is no object
-no_object : (k : Token) → OneOf (but (0 ∷ 2 ∷ []) 6) (tag_of token-type.the_type k) → (a : Object) → ¬ IsObject k a
+pub no_object : (k : Token) → OneOf (but (0 ∷ 2 ∷ []) 6) (tag_of token-type.the_type k) → (a : Object) → ¬ IsObject k a
 no_object k h a a_letter = miss (but (0 ∷ 2 ∷ []) 6) 2 tt h
 no_object k h a lend = miss (but (0 ∷ 2 ∷ []) 6) 0 tt h
 no_object k h a rend = miss (but (0 ∷ 2 ∷ []) 6) 0 tt h
 
--- so where no word stands, a letter is the object
-pub letter_says : {text : List ℕ} {from : ℕ} (k : Token) (equal : Bool)
-    → FirstToken text from k
-    → OneOf (but (0 ∷ []) 6) (tag_of token-type.the_type k)
-    → Next text from (λ t. ObjectSays equal t (letter_of equal k))
-letter_says (Token.Word p q x) equal f h = absurd (miss (but (0 ∷ []) 6) 0 tt h)
-letter_says (Token.Number p q) equal f h = next_other f _ refl (no_object (Token.Number p q) (hit (but (0 ∷ 2 ∷ []) 6) 1 tt)) refl
-letter_says (Token.Letter p q b) equal f h = next_stands f _ _ refl a_letter refl
-letter_says (Token.Sign p q x) equal f h = next_other f _ refl (no_object (Token.Sign p q x) (hit (but (0 ∷ 2 ∷ []) 6) 3 tt)) refl
-letter_says (Token.End p) equal f h = next_other f _ refl (no_object (Token.End p) (hit (but (0 ∷ 2 ∷ []) 6) 4 tt)) refl
-letter_says (Token.Broken p) equal f h = next_other f _ refl (no_object (Token.Broken p) (hit (but (0 ∷ 2 ∷ []) 6) 5 tt)) refl
+-- behind a comparison
+module _ {text : List ℕ} {from : ℕ} {k : Token} (third : Bool → Token → Read → Type 0) {r : Result (Bool × ℕ) Refusal} (f : FirstToken text from k) (h : ComparisonSays k r) where
+  pub compared : {c : Bool × ℕ} {s : Read}
+      → r ≡ Ok c
+      → Next text c.1 (λ t. third c.0 t s)
+      → Next text from (λ t. ComparedSays text third t s)
+  compared {c} {s} e on =
+      next
+      f
+      (case_ok h e (λ a x.
+      let same : c ≡ (a.equal, a.end) = cc in
+      subst (λ (c : Bool × ℕ). Next text c.1 (λ t. third c.0 t s)) same on))
 
-pub not_letter : (k : Token) (equal : Bool) → OneOf (but (2 ∷ []) 6) (tag_of token-type.the_type k) → Refused (refusal_of k) ≡ letter_of equal k
-not_letter (Token.Word p q x) equal h = refl
-not_letter (Token.Number p q) equal h = refl
-not_letter (Token.Letter p q b) equal h = absurd (miss (but (2 ∷ []) 6) 2 tt h)
-not_letter (Token.Sign p q x) equal h = refl
-not_letter (Token.End p) equal h = refl
-not_letter (Token.Broken p) equal h = refl
+  pub not_compared : {d : Refusal} → r ≡ Err d → Next text from (λ t. ComparedSays text third t (Err d))
+  not_compared e = next f (case_err h e (λ a x. absurd cc))
+
+-- what `read` is compared with
+module _ {text : List ℕ} {from : ℕ} {k : Token} (equal : Bool) {r : Result (Symbol × ℕ) Refusal} (f : FirstToken text from k) (h : SymbolSays k r) where
+  pub symbol_found : {x : Symbol × ℕ} → r ≡ Ok x → Next text from (λ t. ObjectSays equal t (found (Atom.Read equal x.0) x.1))
+  symbol_found {x} e =
+      next
+      f
+      (case_ok h e (λ a y.
+      let same : x ≡ (a.symbol, a.end) = cc in
+      ap (λ (x : Symbol × ℕ). found (Atom.Read equal x.0) x.1) same))
+
+  pub symbol_refused : {d : Refusal} → r ≡ Err d → Next text from (λ t. ObjectSays equal t (Err d))
+  symbol_refused e = next f (case_err h e (λ a x. absurd cc))
 
 -- 0 is read, and any other number refused
-module _ (equal : Bool) (digits : List ℕ) (n : Numeral) where
-  pub zero_read_lem : (in_form digits && leb (value_from 0 digits) 0) ≡ true → Found (Atom.Counter equal) n.end ≡ zero_read equal digits n
-  zero_read_lem h = sym (ap (zero_found equal n) h)
+zero_is : (equal : Bool) (n : Numeral) (b : Bool) (at : ℕ) → Ok at ≡ behind_zero n b → found (Atom.Counter equal) at ≡ zero_found equal n b
+zero_is equal n true at e =
+    let there : at ≡ n.end = cc in
+    ap (found (Atom.Counter equal)) there
+zero_is equal n false at e = absurd cc
 
-  pub number_refused : (in_form digits && leb (value_from 0 digits) 0) ≡ false → Refused (record { number = 7; place = n.place }) ≡ zero_read equal digits n
-  number_refused h = sym (ap (zero_found equal n) h)
+no_zero : (equal : Bool) (n : Numeral) (b : Bool) (d : Refusal) → Err d ≡ behind_zero n b → Err d ≡ zero_found equal n b
+no_zero equal n true d e = absurd cc
+no_zero equal n false d e = cc
+
+module _ {text : List ℕ} {from : ℕ} (equal : Bool) {r : Result ℕ Refusal} (h : Next text from (λ t. ZeroSays text t r)) where
+  pub zero_read_lem : {at : ℕ} → r ≡ Ok at → Next text from (λ t. NumeralSays text equal t (found (Atom.Counter equal) at))
+  zero_read_lem e = next h.first (case_ok h.says e (λ n x. zero_is equal n _ _ x))
+
+  pub number_refused : {d : Refusal} → r ≡ Err d → Next text from (λ t. NumeralSays text equal t (Err d))
+  number_refused e = next h.first (case_err h.says e (λ n x. no_zero equal n _ _ x))

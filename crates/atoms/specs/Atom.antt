@@ -1,25 +1,29 @@
 -- What reading an atom of a condition promises, wherever it is looked for: the atom that three tokens are, or the refusal of the
 -- first of them that no atom has. Which letters the alphabet has is not asked.
-use Rattle.std.specs.Prelude.{ℕ, ◌≡◌, Bool, true, false, ◌&&◌, List, leb}
+use Rattle.std.specs.Prelude.{ℕ, ◌≡◌, Bool, true, false, ◌&&◌, List, leb, Result, Ok, Err}
 use Rattle.text.specs.First.{part, FirstToken}
 use Rattle.text.specs.declared.Word.TheVariants as Word
 use Rattle.text.specs.declared.Sign.TheVariants as Sign
 use Rattle.text.specs.declared.Token.{Token}
+use Rattle.table.specs.declared.reason.Reason.TheVariants as Reason
+use Rattle.table.specs.declared.reason.Refusal.{Refusal}
 use Rattle.rule.specs.Limits.{value_from, in_form}
-use Rattle.atoms.specs.declared.Refusal.{Refusal}
 use Rattle.atoms.specs.declared.Symbol.{Symbol}
-use Rattle.atoms.specs.declared.Atom.TheVariants as Atom
+use Rattle.atoms.specs.declared.Atom.{Atom}
 use Rattle.atoms.specs.declared.AtomRead.{AtomRead}
-use Rattle.atoms.specs.declared.AtomRead.TheVariants.{Found, Refused}
 
--- the refusal of a token with which no program goes on: 4, or 3 where it is broken
+-- the refusal of a token with which no program goes on: misplaced, or no token where it is broken
 abbrev pub refusal_of : Token → Refusal
-refusal_of (Token.Word place end x) = record { number = 4; place = place }
-refusal_of (Token.Number place end) = record { number = 4; place = place }
-refusal_of (Token.Letter place end b) = record { number = 4; place = place }
-refusal_of (Token.Sign place end x) = record { number = 4; place = place }
-refusal_of (Token.End place) = record { number = 4; place = place }
-refusal_of (Token.Broken place) = record { number = 3; place = place }
+refusal_of (Token.Word place end x) = record { reason = Reason.Misplaced; place = place }
+refusal_of (Token.Number place end) = record { reason = Reason.Misplaced; place = place }
+refusal_of (Token.Letter place end b) = record { reason = Reason.Misplaced; place = place }
+refusal_of (Token.Sign place end x) = record { reason = Reason.Misplaced; place = place }
+refusal_of (Token.End place) = record { reason = Reason.Misplaced; place = place }
+refusal_of (Token.Broken place) = record { reason = Reason.NoToken; place = place }
+
+-- what comes of reading an atom
+abbrev pub Read : Type 0
+Read = Result AtomRead Refusal
 
 -- what comes first from a byte on, and what is said by it
 pub record Next (text : List ℕ) (from : ℕ) (Says : Token → Type 0) : Type 0 where
@@ -28,9 +32,9 @@ pub record Next (text : List ℕ) (from : ℕ) (Says : Token → Type 0) : Type 
   pub says : Says token
 
 -- a token that stands for something says what follows from that; any other is refused
-pub data Case {A : Type 0} (StandsFor : Token → A → Type 0) (Says : A → AtomRead → Type 0) : Token → AtomRead → Type 0 where
-  stands : {t : Token} {a : A} {r : AtomRead} → StandsFor t a → Says a r → Case StandsFor Says t r
-  other : {t : Token} → ((a : A) → ¬ StandsFor t a) → Case StandsFor Says t (Refused (refusal_of t))
+pub data Case {A R : Type 0} (StandsFor : Token → A → Type 0) (Says : A → Result R Refusal → Type 0) : Token → Result R Refusal → Type 0 where
+  stands : {t : Token} {a : A} {r : Result R Refusal} → StandsFor t a → Says a r → Case StandsFor Says t r
+  other : {t : Token} → ((a : A) → ¬ StandsFor t a) → Case StandsFor Says t (Err (refusal_of t))
 
 -- what is tested, and the byte behind that word
 pub data Tested : Type 0 where
@@ -68,31 +72,35 @@ pub record Numeral : Type 0 where
 pub data IsNumeral : Token → Numeral → Type 0 where
   a_number : {p e : ℕ} → IsNumeral (Token.Number p e) (record { place = p; end = e })
 
--- 0 only, and else 7: by whether the digits are 0
-abbrev pub zero_found : Bool → Numeral → Bool → AtomRead
-zero_found equal n true = Found (Atom.Counter equal) n.end
-zero_found equal n false = Refused (record { number = 7; place = n.place })
+-- an atom that is found, and the byte behind it
+abbrev pub found : Atom → ℕ → Read
+found atom at = Ok (record { atom = atom; at = at })
 
-abbrev pub zero_read : Bool → List ℕ → Numeral → AtomRead
+-- 0 only, and else 7: by whether the digits are 0
+abbrev pub zero_found : Bool → Numeral → Bool → Read
+zero_found equal n true = found (Atom.Counter equal) n.end
+zero_found equal n false = Err (record { reason = Reason.Number; place = n.place })
+
+abbrev pub zero_read : Bool → List ℕ → Numeral → Read
 zero_read equal digits n = zero_found equal n (in_form digits && leb (value_from 0 digits) 0)
 
 -- the third token, behind `read` and a comparison, or behind `c` and one
-abbrev pub ObjectSays : Bool → Token → AtomRead → Type 0
-ObjectSays equal = Case IsObject (λ x r. r ≡ Found (Atom.Read equal x.symbol) x.end)
+abbrev pub ObjectSays : Bool → Token → Read → Type 0
+ObjectSays equal = Case IsObject (λ x r. r ≡ found (Atom.Read equal x.symbol) x.end)
 
 module _ (text : List ℕ) where
-  abbrev pub NumeralSays : Bool → Token → AtomRead → Type 0
+  abbrev pub NumeralSays : Bool → Token → Read → Type 0
   NumeralSays equal = Case IsNumeral (λ n r. r ≡ zero_read equal (part text n.place n.end) n)
 
   -- the second, with what the third then says
-  abbrev pub ComparedSays : (Bool → Token → AtomRead → Type 0) → Token → AtomRead → Type 0
+  abbrev pub ComparedSays : (Bool → Token → Read → Type 0) → Token → Read → Type 0
   ComparedSays third = Case IsCompared (λ c r. Next text c.end (λ t. third c.equal t r))
 
   -- the first
-  abbrev pub TestedSays : Tested → AtomRead → Type 0
+  abbrev pub TestedSays : Tested → Read → Type 0
   TestedSays (letter_read end) r = Next text end (λ t. ComparedSays ObjectSays t r)
   TestedSays (counter end) r = Next text end (λ t. ComparedSays NumeralSays t r)
 
 -- the answer of reading an atom from a byte on
-pub record AtomAt (text : List ℕ) (from : ℕ) (r : AtomRead) : Type 0 where
+pub record AtomAt (text : List ℕ) (from : ℕ) (r : Read) : Type 0 where
   pub right : Next text from (λ t. Case IsTested (TestedSays text) t r)

@@ -1,2 +1,2 @@
 -- What the functions of this crate promise one another. No public promise reaches it.
-pub mod Letter
+pub mod Parts

@@ -6,36 +6,31 @@ ghost use Rattle.bits.specs.Byte.{is_digit};
 ghost use Rattle.text.specs.Token.{every};
 ghost use Rattle.rule.specs.Limits.{in_form, value_from};
 ghost use Rattle.atoms.specs.Atom.{refusal_of, Next, ObjectSays, NumeralSays, ComparedSays, AtomAt};
-ghost use Rattle.atoms.specs.Inside.Letter.{letter_of};
+ghost use Rattle.atoms.specs.Inside.Parts.{ComparisonSays, SymbolSays, ZeroSays};
 
+use table::reason::{Reason, Refusal};
 use text::{Sign, Token, Word};
 use tokeniser::token_at;
 
-// A number from 1 to 11, and the place in the text.
-#[derive(Clone, Copy)]
-pub struct Refusal {
-    pub number: usize,
-    pub place: usize,
-}
-
 // What `read` is compared with. A letter keeps its place: one outside the alphabet is refused there.
-#[derive(Clone, Copy)]
+#[derive(Clone, Copy, Debug, PartialEq, Eq)]
 pub enum Symbol {
     Letter { byte: u8, place: usize },
     Lend,
     Rend,
 }
 
-#[derive(Clone, Copy)]
+#[derive(Clone, Copy, Debug, PartialEq, Eq)]
 pub enum Atom {
     Read { equal: bool, symbol: Symbol },
     Counter { zero: bool },
 }
 
-#[derive(Clone, Copy)]
-pub enum AtomRead {
-    Found { atom: Atom, at: usize },
-    Refused(Refusal),
+// An atom, and the byte behind it.
+#[derive(Clone, Copy, Debug, PartialEq, Eq)]
+pub struct AtomRead {
+    pub atom: Atom,
+    pub at: usize,
 }
 
 // The refusal of a token with which no program goes on.
@@ -43,152 +38,104 @@ pub fn refuse(token: Token) -> Refusal
     ensures { result ≡ refusal_of token }
 {
     match token {
-        Token::Word {
-            at,
-            end: _,
-            word: _,
-        } => Refusal {
-            number: 4,
-            place: at,
-        },
-        Token::Number { at, end: _ } => Refusal {
-            number: 4,
-            place: at,
-        },
-        Token::Letter {
-            at,
-            end: _,
-            byte: _,
-        } => Refusal {
-            number: 4,
-            place: at,
-        },
-        Token::Sign {
-            at,
-            end: _,
-            sign: _,
-        } => Refusal {
-            number: 4,
-            place: at,
-        },
-        Token::End { at } => Refusal {
-            number: 4,
+        Token::Word { at, .. }
+        | Token::Number { at, .. }
+        | Token::Letter { at, .. }
+        | Token::Sign { at, .. }
+        | Token::End { at } => Refusal {
+            reason: Reason::Misplaced,
             place: at,
         },
         Token::Broken { at } => Refusal {
-            number: 3,
+            reason: Reason::NoToken,
             place: at,
         },
     }
 }
 
 // The atom that stands here, or the refusal of the first token that no atom has.
-pub fn atom_at(text: &[u8], at: usize) -> AtomRead
+pub fn atom_at(text: &[u8], at: usize) -> Result<AtomRead, Refusal>
     ensures { AtomAt text.now at result }
 {
     let token = token_at(text, at);
-    let Token::Word { at: _, end, word } = token else {
-        return AtomRead::Refused(refuse(token));
+    let Token::Word { end, word, .. } = token else {
+        return Err(refuse(token));
     };
     match word {
         Word::Read => read_test_at(text, end),
         Word::C => counter_test_at(text, end),
-        _ => AtomRead::Refused(refuse(token)),
+        _ => Err(refuse(token)),
     }
 }
 
 // Behind `read`.
-fn read_test_at(text: &[u8], at: usize) -> AtomRead
+fn read_test_at(text: &[u8], at: usize) -> Result<AtomRead, Refusal>
     ensures { Next text.now at (λ t. ComparedSays text.now ObjectSays t result) }
 {
-    let token = token_at(text, at);
-    let Token::Sign { at: _, end, sign } = token else {
-        return AtomRead::Refused(refuse(token));
-    };
-    match sign {
-        Sign::Equals => symbol_at(text, end, true),
-        Sign::Differs => symbol_at(text, end, false),
-        _ => AtomRead::Refused(refuse(token)),
-    }
+    let (equal, at) = comparison_of(token_at(text, at))?;
+    let (symbol, at) = symbol_of(token_at(text, at))?;
+    Ok(AtomRead {
+        atom: Atom::Read { equal, symbol },
+        at,
+    })
 }
 
-// A mark, or a letter.
-fn symbol_at(text: &[u8], at: usize, equal: bool) -> AtomRead
-    ensures { Next text.now at (λ t. ObjectSays equal t result) }
-{
-    let token = token_at(text, at);
-    let Token::Word { at: _, end, word } = token else {
-        return letter_of(token, equal);
-    };
-    match word {
-        Word::Lend => AtomRead::Found {
-            atom: Atom::Read {
-                equal,
-                symbol: Symbol::Lend,
-            },
-            at: end,
-        },
-        Word::Rend => AtomRead::Found {
-            atom: Atom::Read {
-                equal,
-                symbol: Symbol::Rend,
-            },
-            at: end,
-        },
-        _ => AtomRead::Refused(refuse(token)),
-    }
-}
-
-fn letter_of(token: Token, equal: bool) -> AtomRead
-    ensures { result ≡ letter_of equal token }
-{
-    let Token::Letter {
-        at: place,
-        end,
-        byte,
-    } = token
-    else {
-        return AtomRead::Refused(refuse(token));
-    };
-    AtomRead::Found {
-        atom: Atom::Read {
-            equal,
-            symbol: Symbol::Letter { byte, place },
-        },
-        at: end,
-    }
-}
-
-// Behind `c`.
-fn counter_test_at(text: &[u8], at: usize) -> AtomRead
+// Behind `c`, which is tested against 0 only.
+fn counter_test_at(text: &[u8], at: usize) -> Result<AtomRead, Refusal>
     ensures { Next text.now at (λ t. ComparedSays text.now (NumeralSays text.now) t result) }
 {
-    let token = token_at(text, at);
-    let Token::Sign { at: _, end, sign } = token else {
-        return AtomRead::Refused(refuse(token));
+    let (zero, at) = comparison_of(token_at(text, at))?;
+    let at = zero_at(text, at)?;
+    Ok(AtomRead {
+        atom: Atom::Counter { zero },
+        at,
+    })
+}
+
+// Whether for being equal, and the byte behind the sign.
+fn comparison_of(token: Token) -> Result<(bool, usize), Refusal>
+    ensures { ComparisonSays token result }
+{
+    let Token::Sign { end, sign, .. } = token else {
+        return Err(refuse(token));
     };
     match sign {
-        Sign::Equals => zero_at(text, end, true),
-        Sign::Differs => zero_at(text, end, false),
-        _ => AtomRead::Refused(refuse(token)),
+        Sign::Equals => Ok((true, end)),
+        Sign::Differs => Ok((false, end)),
+        _ => Err(refuse(token)),
     }
 }
 
-// The counter is tested against 0 only.
-fn zero_at(text: &[u8], at: usize, equal: bool) -> AtomRead
-    ensures { Next text.now at (λ t. NumeralSays text.now equal t result) }
+// What `read` is compared with, and the byte behind it.
+fn symbol_of(token: Token) -> Result<(Symbol, usize), Refusal>
+    ensures { SymbolSays token result }
+{
+    match token {
+        Token::Letter { at, end, byte } => Ok((Symbol::Letter { byte, place: at }, end)),
+        Token::Word { end, word, .. } => match word {
+            Word::Lend => Ok((Symbol::Lend, end)),
+            Word::Rend => Ok((Symbol::Rend, end)),
+            _ => Err(refuse(token)),
+        },
+        _ => Err(refuse(token)),
+    }
+}
+
+// The byte behind a 0.
+fn zero_at(text: &[u8], at: usize) -> Result<usize, Refusal>
+    ensures { Next text.now at (λ t. ZeroSays text.now t result) }
 {
     let token = token_at(text, at);
     let Token::Number { at: place, end } = token else {
-        return AtomRead::Refused(refuse(token));
+        return Err(refuse(token));
     };
     if !is_zero(&text[place..end]) {
-        return AtomRead::Refused(Refusal { number: 7, place });
+        return Err(Refusal {
+            reason: Reason::Number,
+            place,
+        });
     }
-    AtomRead::Found {
-        atom: Atom::Counter { zero: equal },
-        at: end,
-    }
+    Ok(end)
 }
 
 // Whether digits are 0, without a leading zero.
@@ -196,8 +143,5 @@ fn is_zero(digits: &[u8]) -> bool
     requires { T (every is_digit digits.now) }
     ensures { result ≡ (in_form digits.now && leb (value_from 0 digits.now) 0) }
 {
-    if digits.len() != 1 {
-        return false;
-    }
-    digits[0] == b'0'
+    digits.len() == 1 && digits[0] == b'0'
 }

@@ -44,7 +44,7 @@ use Rattle.atoms.specs.Atom.{
   TestedSays,
   AtomAt,
 }
-use Rattle.atoms.specs.declared.AtomRead.{AtomRead}
+use Rattle.atoms.specs.Atom.{Read as AtomAnswer}
 use Rattle.atoms.proofs.Said.{but}
 use Rattle.reader.specs.Inside.Atoms.{behind, compared, is_sign, NoSign, Tests}
 use Rattle.reader.proofs.Front.{front_word, front_number, front_letter, front_sign}
@@ -131,12 +131,12 @@ comparison_left p q Sign.Semicolon h = hit (but (1 ∷ 2 ∷ []) 19) 18 tt
 
 module _ {text : List ℕ} where
   -- what `read` is compared with
-  object_tests : {from : ℕ} {r : AtomRead} (equal : Bool) (o v : ℕ)
+  object_tests : {from : ℕ} {r : AtomAnswer} (equal : Bool) (o v : ℕ)
       → Next text from (λ k. ObjectSays equal k r)
       → Tests text from (λ ts. behind (w "read") o (behind (compared equal) v ts)) symbol_name r
   object_tests {from} {r} equal o v next = by_cases next.token r next.first next.says
     where
-      by_cases : (k : Token) (r : AtomRead) → FirstToken text from k → ObjectSays equal k r → Tests text from (λ ts. behind (w "read") o (behind (compared equal) v ts)) symbol_name r
+      by_cases : (k : Token) (r : AtomAnswer) → FirstToken text from k → ObjectSays equal k r → Tests text from (λ ts. behind (w "read") o (behind (compared equal) v ts)) symbol_name r
       by_cases k r f (stands (a_letter {p = p} {b = b}) e) =
           rw e (sought_found equal o v (Tree.letter (record { byte = b; place = p })) (front_letter f refl) (λ ts. Grammar.a_letter))
       by_cases k r f (stands lend e) = rw e (sought_found equal o v Tree.lend (front_word f refl) (λ ts. Grammar.lend))
@@ -156,12 +156,12 @@ module _ {text : List ℕ} where
   zero_tests equal o v true f fits = zero_found_lem equal o v (front_number f refl) (ap not fits)
   zero_tests equal o v false f fits = test_breaks (front_number f refl) _ (λ t. refl) (λ t. ap not fits) (λ t. refl)
 
-  numeral_tests : {from : ℕ} {r : AtomRead} (equal : Bool) (o v : ℕ)
+  numeral_tests : {from : ℕ} {r : AtomAnswer} (equal : Bool) (o v : ℕ)
       → Next text from (λ k. NumeralSays text equal k r)
       → Tests text from (λ ts. behind (w "c") o (behind (compared equal) v ts)) (number 0) r
   numeral_tests {from} {r} equal o v next = by_cases next.token r next.first next.says
     where
-      by_cases : (k : Token) (r : AtomRead) → FirstToken text from k → NumeralSays text equal k r → Tests text from (λ ts. behind (w "c") o (behind (compared equal) v ts)) (number 0) r
+      by_cases : (k : Token) (r : AtomAnswer) → FirstToken text from k → NumeralSays text equal k r → Tests text from (λ ts. behind (w "c") o (behind (compared equal) v ts)) (number 0) r
       by_cases k r f (stands a_number e) = rw e (zero_tests equal o v _ f refl)
       by_cases (Token.Word p q x) r f (other h) = test_refuses f (λ t. hit (but (1 ∷ []) 6) 0 tt) refl
       by_cases (Token.Number p q) r f (other h) = absurd (h _ a_number)
@@ -171,12 +171,12 @@ module _ {text : List ℕ} where
       by_cases (Token.Broken p) r f (other h) = test_refuses f (λ t. hit (but (1 ∷ []) 6) 5 tt) refl
 
   -- the comparison, behind `read` and behind `c`
-  read_tests : {from : ℕ} {r : AtomRead} (o : ℕ)
+  read_tests : {from : ℕ} {r : AtomAnswer} (o : ℕ)
       → Next text from (λ k. ComparedSays text ObjectSays k r)
       → Tests text from (behind (w "read") o) read_test r
   read_tests {from} {r} o next = by_cases next.token r next.first next.says
     where
-      by_cases : (k : Token) (r : AtomRead) → FirstToken text from k → ComparedSays text ObjectSays k r → Tests text from (behind (w "read") o) read_test r
+      by_cases : (k : Token) (r : AtomAnswer) → FirstToken text from k → ComparedSays text ObjectSays k r → Tests text from (behind (w "read") o) read_test r
       by_cases k r f (stands (same {p = p}) third) = test_on (front_sign f refl) _ (λ t. refl) (λ t. refl) (λ t. refl) (object_tests true o p third)
       by_cases k r f (stands (differs {p = p}) third) = test_on (front_sign f refl) _ (λ t. refl) (λ t. refl) (λ t. refl) (object_tests false o p third)
       by_cases (Token.Word p q x) r f (other h) = test_refuses f (λ t. hit (but (3 ∷ []) 6) 0 tt) refl
@@ -186,12 +186,12 @@ module _ {text : List ℕ} where
       by_cases (Token.End p) r f (other h) = test_refuses f (λ t. hit (but (3 ∷ []) 6) 4 tt) refl
       by_cases (Token.Broken p) r f (other h) = test_refuses f (λ t. hit (but (3 ∷ []) 6) 5 tt) refl
 
-  counter_tests : {from : ℕ} {r : AtomRead} (o : ℕ)
+  counter_tests : {from : ℕ} {r : AtomAnswer} (o : ℕ)
       → Next text from (λ k. ComparedSays text (NumeralSays text) k r)
       → Tests text from (behind (w "c") o) counter_test r
   counter_tests {from} {r} o next = by_cases next.token r next.first next.says
     where
-      by_cases : (k : Token) (r : AtomRead) → FirstToken text from k → ComparedSays text (NumeralSays text) k r → Tests text from (behind (w "c") o) counter_test r
+      by_cases : (k : Token) (r : AtomAnswer) → FirstToken text from k → ComparedSays text (NumeralSays text) k r → Tests text from (behind (w "c") o) counter_test r
       by_cases k r f (stands (same {p = p}) third) = test_on (front_sign f refl) _ (λ t. refl) (λ t. refl) (λ t. refl) (numeral_tests true o p third)
       by_cases k r f (stands (differs {p = p}) third) = test_on (front_sign f refl) _ (λ t. refl) (λ t. refl) (λ t. refl) (numeral_tests false o p third)
       by_cases (Token.Word p q x) r f (other h) = test_refuses f (λ t. hit (but (3 ∷ []) 6) 0 tt) refl
@@ -202,12 +202,12 @@ module _ {text : List ℕ} where
       by_cases (Token.Broken p) r f (other h) = test_refuses f (λ t. hit (but (3 ∷ []) 6) 5 tt) refl
 
 -- the whole atom
-pub atom_tests : {text : List ℕ} {from : ℕ} {r : AtomRead} → NoSign text from → AtomAt text from r → (n : ℕ) → Tests text from (λ ts. ts) (operand n) r
+pub atom_tests : {text : List ℕ} {from : ℕ} {r : AtomAnswer} → NoSign text from → AtomAt text from r → (n : ℕ) → Tests text from (λ ts. ts) (operand n) r
 atom_tests {text} {from} {r} none reads n =
     let next = reads.right in
     by_cases next.token r next.first (ap is_sign (first_once next.first none.first) ∙ none.none) next.says
   where
-    by_cases : (k : Token) (r : AtomRead) → FirstToken text from k → is_sign k ≡ false → Atom.Case IsTested (TestedSays text) k r → Tests text from (λ ts. ts) (operand n) r
+    by_cases : (k : Token) (r : AtomAnswer) → FirstToken text from k → is_sign k ≡ false → Atom.Case IsTested (TestedSays text) k r → Tests text from (λ ts. ts) (operand n) r
     by_cases k r f s (stands (by_read {p = p}) second) = test_on (front_word f refl) _ (λ t. refl) (λ t. refl) (λ t. refl) (read_tests p second)
     by_cases k r f s (stands (by_c {p = p}) second) = test_on (front_word f refl) _ (λ t. refl) (λ t. refl) (λ t. refl) (counter_tests p second)
     by_cases k r f s (other h) = test_missed f (λ t. test_missing text t n k s h) refl

@@ -12,6 +12,7 @@ use Rattle.text.specs.declared.Token.{Token}
 use Rattle.rule.specs.Inside.Class.{Fixed, mark}
 use Rattle.rule.specs.Inside.Machine.{Expected, block, statements, arms, or_also, Stack, Totals}
 use Rattle.rule.proofs.Machine.Follow.{not_first}
+use Rattle.table.specs.declared.reason.Reason.TheVariants as Reason
 use Rattle.reader.specs.Inside.Answers.{Front, spot, totals, ComesTo, Answers, LastArm}
 use Rattle.reader.specs.declared.answers.Counts.{Counts}
 use Rattle.reader.specs.declared.answers.Read.{Read}
@@ -58,12 +59,12 @@ module _ {text : List ℕ} {from p q : ℕ} (d n : ℕ) {a : List ℕ} {c : Coun
   -- a ninth arm
   pub ninth_arm : {w y : Stack} {b : List ℕ}
       → n ≡ 8
-      → Answers text (spot from (behind_arms d n ∷ w) (totals a c)) y b (Refused (record { number = 9; place = p }))
+      → Answers text (spot from (behind_arms d n ∷ w) (totals a c)) y b (Refused (record { reason = Reason.Arms; place = p }))
   ninth_arm {w} {y} {b} e =
       subst
-      (λ (x : Expected). Answers text (spot from (x ∷ w) (totals a c)) y b (Refused (record { number = 9; place = p })))
+      (λ (x : Expected). Answers text (spot from (x ∷ w) (totals a c)) y b (Refused (record { reason = Reason.Arms; place = p })))
       (sym (more_arms_lem d n (omega arith)))
-      (break f refl (le-leb 8 n (omega arith)))
+      (break f refl (le-leb 8 n (omega arith)) refl)
 
 -- no arm more
 pub last_arm_lem : {text : List ℕ} {from q d n : ℕ} {a : List ℕ} {t : Totals} {c : Counts} {arm r : Read} {k l : Token}

@@ -23,10 +23,11 @@ use Rattle.text.specs.Inside.Same.{same_token}
 use Rattle.rule.specs.Inside.Class.{Fixed, spell, Class, mark, other, token_of, classify}
 use Rattle.rule.proofs.Machine.Class.{token_of_class, class_of_mark}
 use Rattle.rule.specs.Inside.Machine.{exact, Stack, Totals, choices, pick}
+use Rattle.table.specs.declared.reason.Reason.TheVariants as Reason
 use Rattle.atoms.specs.Atom.{refusal_of}
 use Rattle.reader.specs.Inside.Answers.{Front, spot, totals, Ready, Answers}
 use Rattle.reader.specs.declared.answers.Counts.{Counts}
-use Rattle.atoms.specs.declared.Refusal.{Refusal}
+use Rattle.table.specs.declared.reason.Refusal.{Refusal}
 use Rattle.reader.specs.declared.answers.Read.TheVariants.{Went, Refused}
 use Rattle.atoms.proofs.Arms.{passing}
 use Rattle.reader.proofs.Front.{front_sign}
@@ -82,7 +83,7 @@ module _ {text : List ℕ} {from : ℕ} {b : ℕ} {m : Fixed} (e : spell m ≡ s
   module _ {p q : ℕ} {s : Sign} (is : k ≡ Token.Sign p q s) where
     module _ {w y : Stack} {a : List ℕ} {t : Totals} {r : Refusal} where
       not_that : ¬ (part text p q ≡ b ∷ [])
-          → r ≡ record { number = 4; place = p }
+          → r ≡ record { reason = Reason.Misplaced; place = p }
           → Answers text (spot from (exact m ∷ w) t) y a (Refused r)
       not_that h right =
           let g = subst (λ (u : Token). FirstToken text from u) is f in
@@ -90,7 +91,7 @@ module _ {text : List ℕ} {from : ℕ} {b : ℕ} {m : Fixed} (e : spell m ≡ s
           refused g right (other_sign m (b ∷ []) e t p (classify (sign (written s))) differs)
 
       -- a longer sign
-      pub longer : ¬ (q - p ≡ 1) → r ≡ record { number = 4; place = p } → Answers text (spot from (exact m ∷ w) t) y a (Refused r)
+      pub longer : ¬ (q - p ≡ 1) → r ≡ record { reason = Reason.Misplaced; place = p } → Answers text (spot from (exact m ∷ w) t) y a (Refused r)
       longer h right =
           let g = front_sign f is in
           not_that (λ same. h (sym (part_length text g.some g.within) ∙ ap length same)) right
@@ -98,7 +99,7 @@ module _ {text : List ℕ} {from : ℕ} {b : ℕ} {m : Fixed} (e : spell m ≡ s
       -- another byte
       pub another : q - p ≡ 1
           → ¬ (get_or text p 0 ≡ b)
-          → r ≡ record { number = 4; place = p }
+          → r ≡ record { reason = Reason.Misplaced; place = p }
           → Answers text (spot from (exact m ∷ w) t) y a (Refused r)
       another one h right =
           let g = front_sign f is in

@@ -11,4 +11,5 @@ pub mod Peek
 pub mod Branches
 pub mod Listed
 pub mod Whole
+pub mod Reasons
 pub mod Promise

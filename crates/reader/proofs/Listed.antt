@@ -11,7 +11,7 @@ use Rattle.rule.specs.Limits.{is_in}
 use Rattle.rule.specs.Inside.Machine.{Stack, with_letter, excess}
 use Rattle.reader.specs.Inside.Answers.{Spot, totals, Answers, alphabet_of, Sized, AnswersWith}
 use Rattle.reader.specs.declared.answers.Counts.{Counts}
-use Rattle.atoms.specs.declared.Refusal.{Refusal}
+use Rattle.table.specs.declared.reason.Refusal.{Refusal}
 use Rattle.reader.specs.declared.answers.Read.{Read}
 use Rattle.reader.specs.declared.answers.Read.TheVariants.{Refused}
 use Rattle.reader.specs.declared.letters.Letters.{Letters}

@@ -25,9 +25,10 @@ use Rattle.text.proofs.Follow.{place_of}
 use Rattle.rule.specs.Inside.Class.{spell, Class, mark, other, token_of, classify}
 use Rattle.rule.proofs.Machine.Class.{token_of_class}
 use Rattle.rule.specs.Inside.Machine.{Expected, Stack, Totals, Move, Choice, on, on_number, on_letter, choices, take, pick, run}
+use Rattle.table.specs.declared.reason.Reason.TheVariants as Reason
 use Rattle.atoms.specs.Atom.{refusal_of}
 use Rattle.reader.specs.Inside.Answers.{spot, Stops, Answers}
-use Rattle.atoms.specs.declared.Refusal.{Refusal}
+use Rattle.table.specs.declared.reason.Refusal.{Refusal}
 use Rattle.reader.specs.declared.answers.Read.TheVariants.{Refused}
 use Rattle.atoms.proofs.Arms.{passing, left_passes, values_left, value_left}
 use Rattle.reader.proofs.Front.{named, class_of, front_word, front_number, front_letter, front_sign}
@@ -164,13 +165,13 @@ module _ {text : List ℕ} {from : ℕ} {x : Expected} {t : Totals} where
     pub refuses_sign : {s : Sign}
         → k ≡ Token.Sign p q s
         → OneOf (values_left sign-type.enum (misses_sign t x p)) (tag_of sign-type.the_type s)
-        → r ≡ record { number = 4; place = p }
+        → r ≡ record { reason = Reason.Misplaced; place = p }
         → Answers text (spot from (x ∷ w) t) y b (Refused r)
     refuses_sign {s} e h right = refused (subst (λ (u : Token). FirstToken text from u) e f) right (missed_sign text x t p q s h)
 
     pub refuses_word : {v : Word}
         → k ≡ Token.Word p q v
         → OneOf (values_left word-type.enum (misses_word t x p (part text p q))) (tag_of word-type.the_type v)
-        → r ≡ record { number = 4; place = p }
+        → r ≡ record { reason = Reason.Misplaced; place = p }
         → Answers text (spot from (x ∷ w) t) y b (Refused r)
     refuses_word {v} e h right = refused (subst (λ (u : Token). FirstToken text from u) e f) right (missed_word text x t p q v h)

@@ -10,11 +10,13 @@ use Rattle.text.specs.Tokens.{Placed, ◌at◌, Ending, Tokens}
 use Rattle.text.specs.Inside.Scan.{scan_from}
 use Rattle.text.proofs.Tokens.{scan_from_right, tokens_once}
 use Rattle.rule.specs.Inside.Class.{Class}
-use Rattle.rule.specs.Inside.Machine.{Expected, Stack, Value, Totals, Move, choices, pick, move}
+use Rattle.rule.specs.Inside.Machine.{Expected, Stack, Value, Totals, Move, choices, pick, move, refused}
 use Rattle.rule.proofs.Machine.Steps.{run_stops, run_breaks, run_passes}
+use Rattle.table.specs.Refusal.{number_of}
+use Rattle.table.specs.declared.reason.Reason.{Reason}
 use Rattle.reader.specs.Inside.Answers.{Front, Spot, spot, totals, ComesTo, Stops, Ready, Answers, Past, Eats}
 use Rattle.reader.specs.declared.answers.Counts.{Counts}
-use Rattle.atoms.specs.declared.Refusal.{Refusal}
+use Rattle.table.specs.declared.reason.Refusal.{Refusal}
 use Rattle.reader.specs.declared.answers.Read.{Read}
 use Rattle.reader.specs.declared.answers.Read.TheVariants.{Went, Refused}
 
@@ -43,20 +45,21 @@ module _ {text : List ℕ} where
           forth = omega (arith, f.back, f.some);
         }
 
-    pub breaks : {m : Move (Value x)}
+    pub breaks : {m : Move (Value x)} {why : Reason}
         → pick (choices t p x) k ≡ some m
         → m.breaks ≡ true
-        → Stops text (spot from (x ∷ []) t) (record { number = m.fault; place = p })
+        → m.fault ≡ number_of why
+        → Stops text (spot from (x ∷ []) t) (record { reason = why; place = p })
     unfolding move
-    breaks {m} h b =
+    breaks {m} h b n =
         record {
           before = (f.token at p) ∷ f.after;
           ending = f.ending;
           here = f.all;
-          same = λ st. run_breaks x t f.token p m (ap (pick (choices t p x)) f.is ∙ h) b st f.after f.ending;
+          same = λ st. run_breaks x t f.token p m (ap (pick (choices t p x)) f.is ∙ h) b st f.after f.ending ∙ ap (λ (number : ℕ). refused number p) n;
         }
 
-    pub misses : pick (choices t p x) k ≡ none → Stops text (spot from (x ∷ []) t) (record { number = 4; place = p })
+    pub misses : pick (choices t p x) k ≡ none → Stops text (spot from (x ∷ []) t) (record { reason = Reason.Misplaced; place = p })
     unfolding move
     misses h =
         record {
@@ -199,12 +202,13 @@ module _ {text : List ℕ} where
     stay w h e g = then w h e (onward g (done (went_ready h e)))
 
     -- a limit is broken
-    pub break : {from p q : ℕ} {k : Class} {x : Expected} {t : Totals} {m : Move (Value x)} {w : Stack}
+    pub break : {from p q : ℕ} {k : Class} {x : Expected} {t : Totals} {m : Move (Value x)} {w : Stack} {why : Reason}
         → Front text from k p q
         → pick (choices t p x) k ≡ some m
         → m.breaks ≡ true
-        → Answers text (spot from (x ∷ w) t) y b (Refused (record { number = m.fault; place = p }))
-    break {x = x} {t = t} {w = w} f h l = record { right = under_stops w (breaks x t f h l) }
+        → m.fault ≡ number_of why
+        → Answers text (spot from (x ∷ w) t) y b (Refused (record { reason = why; place = p }))
+    break {x = x} {t = t} {w = w} f h l n = record { right = under_stops w (breaks x t f h l n) }
 
   -- more is expected behind
   pub over : {from : ℕ} {x z : Stack} {t : Totals} {a : List ℕ} {r : Read} (w : Stack)

@@ -5,6 +5,7 @@ use mathlib.Core.Path.{◌≡◌, refl, sym, ap, ◌∙◌, subst}
 use mathlib.Core.Bool.{Bool, true, false, not, true≢false}
 use mathlib.Core.Option.{some}
 use mathlib.Core.List.{List, [], ◌∷◌}
+use Rattle.std.specs.Prelude.{Ok, Err}
 use lib.ListN.{length}
 use denote.Enum.Declared.{tag_of}
 use types.Run.{OneOf, hit, miss}
@@ -27,10 +28,13 @@ use Rattle.rule.proofs.Within.{kept}
 use Rattle.rule.specs.Inside.Class.{Class, token_of}
 use Rattle.rule.proofs.Machine.Class.{token_of_class}
 use Rattle.rule.specs.Inside.Machine.{Expected, number, operand, symbol_name, Stack, Value, Totals, counted, Move, outside, choices, pick, move, refused, run}
+use Rattle.table.specs.Refusal.{number_of}
+use Rattle.table.specs.declared.reason.Reason.{Reason as Named}
+use Rattle.table.specs.declared.reason.Reason.TheVariants as Reason
 use Rattle.atoms.specs.Atom.{refusal_of}
 use Rattle.reader.specs.Inside.Answers.{Front, spot, totals, Stops, Ready, Answers}
 use Rattle.reader.specs.Inside.Atoms.{symbol_of, atom_of, rows_of, stray_of, Zeroed, compared, behind, is_sign, NoSign, Tests}
-use Rattle.atoms.specs.declared.Refusal.{Refusal}
+use Rattle.table.specs.declared.reason.Refusal.{Refusal}
 use Rattle.reader.specs.declared.answers.Counts.{Counts}
 use Rattle.reader.specs.declared.answers.Read.TheVariants as Read
 use Rattle.reader.specs.declared.answers.Read.TheVariants.{Went}
@@ -38,8 +42,8 @@ use Rattle.atoms.specs.declared.Symbol.{Symbol as Sought}
 use Rattle.atoms.specs.contracts.Symbol as symbol-type
 use Rattle.reader.specs.declared.conditions.Stray.{Stray}
 use Rattle.atoms.specs.declared.Atom.{Atom}
-use Rattle.atoms.specs.declared.AtomRead.{AtomRead}
-use Rattle.atoms.specs.declared.AtomRead.TheVariants.{Found, Refused}
+use Rattle.atoms.specs.Atom.{found}
+use Rattle.atoms.specs.Atom.{Read as AtomAnswer}
 use Rattle.reader.proofs.Moves.{goes, breaks, comes_stops, counts_plus}
 use Rattle.atoms.proofs.Arms.{values_left}
 use Rattle.reader.proofs.Missed.{Misses, missed, sorts_left, misses_sign, missed_sort, missed_sign}
@@ -54,43 +58,43 @@ module _ {text : List ℕ} {from : ℕ} {lead : Ts → Ts} {x : Expected} where
       → FirstToken text from k
       → ((t : Totals) → Misses text t x k)
       → r ≡ refusal_of k
-      → Tests text from lead x (Refused r)
+      → Tests text from lead x (Err r)
   test_missed {k} f h right = record { right = λ t. rw right (missed k f (h t)) }
 
   pub test_refuses : {k : Token} {r : Refusal}
       → FirstToken text from k
       → ((t : Totals) → OneOf (sorts_left t x k) (tag_of token-type.the_type k))
       → r ≡ refusal_of k
-      → Tests text from lead x (Refused r)
+      → Tests text from lead x (Err r)
   test_refuses {k} f h right = test_missed f (λ t. missed_sort text x t k (h t)) right
 
   pub test_refuses_sign : {k : Token} {r : Refusal} {p q : ℕ} {v : Sign}
       → FirstToken text from k
       → k ≡ Token.Sign p q v
       → ((t : Totals) → OneOf (values_left sign-type.enum (misses_sign t x p)) (tag_of sign-type.the_type v))
-      → r ≡ record { number = 4; place = p }
-      → Tests text from lead x (Refused r)
+      → r ≡ record { reason = Reason.Misplaced; place = p }
+      → Tests text from lead x (Err r)
   test_refuses_sign {p = p} {q = q} {v = v} f e h right =
       test_missed (subst (λ (u : Token). FirstToken text from u) e f) (λ t. missed_sign text x t p q v (h t)) right
 
   module _ {p q : ℕ} {k : Class} (f : Front text from k p q) where
     -- a limit is broken
-    pub test_breaks : (m : Totals → Move (Value x)) {n : ℕ}
+    pub test_breaks : (m : Totals → Move (Value x)) {why : Named}
         → ((t : Totals) → pick (choices t p x) k ≡ some (m t))
         → ((t : Totals) → (m t).breaks ≡ true)
-        → ((t : Totals) → (m t).fault ≡ n)
-        → Tests text from lead x (Refused (record { number = n; place = p }))
+        → ((t : Totals) → (m t).fault ≡ number_of why)
+        → Tests text from lead x (Err (record { reason = why; place = p }))
     test_breaks m h b n =
-        record { right = λ t. subst (λ (j : ℕ). Stops text (spot from (x ∷ []) t) (record { number = j; place = p })) (n t) (breaks x t f (h t) (b t)) }
+        record { right = λ t. breaks x t f (h t) (b t) (n t) }
 
     -- a token of an atom, and the rest of it
-    pub test_on : (m : Totals → Move (Value x)) {y : Expected} {r : AtomRead}
+    pub test_on : (m : Totals → Move (Value x)) {y : Expected} {r : AtomAnswer}
         → ((t : Totals) → pick (choices t p x) k ≡ some (m t))
         → ((t : Totals) → (m t).breaks ≡ false)
         → ((t : Totals) → (m t).push ≡ y ∷ [])
         → Tests text q (λ ts. lead ((token_of k at p) ∷ ts)) y r
         → Tests text from lead x r
-    test_on m {r = Found atom to} h b e g =
+    test_on m {r = Ok found} h b e g =
         let g' = g.right in
         let once = tokens_once f.rest g'.here in
         record {
@@ -110,7 +114,7 @@ module _ {text : List ℕ} {from : ℕ} {lead : Ts → Ts} {x : Expected} where
                 inside = g'.inside;
               };
         }
-    test_on m {y = y} {r = Refused r} h b e g =
+    test_on m {y = y} {r = Err r} h b e g =
         record {
           right =
               λ t.
@@ -124,7 +128,7 @@ module _ {text : List ℕ} {from : ℕ} {lead : Ts → Ts} {x : Expected} where
         → ((ts : Ts) → IsAtom (lead ((token_of k at p) ∷ ts)) place tree ts)
         → Zeroed tree
         → atom ≡ atom_of tree
-        → Tests text from lead x (Found atom q)
+        → Tests text from lead x (found atom q)
     test_found tree h g e =
         record {
           right =
@@ -185,14 +189,14 @@ module _ {text : List ℕ} {from p q : ℕ} (equal : Bool) (o r : ℕ) where
   pub sought_found : {k : Class} (x : Tree.SymbolName)
       → Front text from k p q
       → ((ts : Ts) → IsSymbolName ((token_of k at p) ∷ ts) x ts)
-      → Tests text from (λ ts. behind (w "read") o (behind (compared equal) r ts)) symbol_name (Found (Atom.Read equal (symbol_of x)) q)
+      → Tests text from (λ ts. behind (w "read") o (behind (compared equal) r ts)) symbol_name (found (Atom.Read equal (symbol_of x)) q)
   sought_found x f h = test_found f (read_of equal x) (λ ts. is_read equal o r (h ts)) (read_zeroed equal x) (read_is_lem equal x)
 
   -- what `c` is compared with
   pub zero_found_lem : {l : List ℕ}
       → Front text from (Class.number l) p q
       → outside 0 l ≡ false
-      → Tests text from (λ ts. behind (w "c") o (behind (compared equal) r ts)) (number 0) (Found (Atom.Counter equal) q)
+      → Tests text from (λ ts. behind (w "c") o (behind (compared equal) r ts)) (number 0) (found (Atom.Counter equal) q)
   unfolding number_faults fault_if
   zero_found_lem {l} f h =
       let n : Number = record { digits = l; place = p } in
@@ -323,10 +327,10 @@ atom_stops n t st e q (Grammar.read_is_not h) g = sought_stops (counted 0 (lengt
 atom_stops n t st e q Grammar.counter_is g = no_stray q g
 atom_stops n t st e q Grammar.counter_is_not g = no_stray q g
 
-module _ {text : List ℕ} {from n : ℕ} {a : List ℕ} {r : AtomRead} {counts : Counts} (h : Tests text from (λ ts. ts) (operand n) r) where
+module _ {text : List ℕ} {from n : ℕ} {a : List ℕ} {r : AtomAnswer} {counts : Counts} (h : Tests text from (λ ts. ts) (operand n) r) where
   -- an operand that is an atom
   pub atom_answers : {atom : Atom} {to : ℕ} {l : Counts} {rows : ℕ}
-      → r ≡ Found atom to
+      → r ≡ found atom to
       → stray_of a atom ≡ Stray.Nowhere
       → Ready text from counts
       → length a ≤ 16
@@ -334,7 +338,7 @@ module _ {text : List ℕ} {from n : ℕ} {a : List ℕ} {r : AtomRead} {counts 
       → l ≡ record { states = counts.states + 0; rows = counts.rows + rows }
       → Answers text (spot from (operand n ∷ []) (totals a counts)) [] a (Went to l)
   atom_answers {atom} {to} {l} {rows} e stays ready few rows_are more =
-      let i = (subst (λ (u : AtomRead). Tests text from (λ ts. ts) (operand n) u) e h).right in
+      let i = (subst (λ (u : AtomAnswer). Tests text from (λ ts. ts) (operand n) u) e h).right in
       let same : counted 0 (rows_of (length a) (atom_of i.tree)) (totals a counts) ≡ totals a l =
       ap (λ (k : ℕ). counted 0 k (totals a counts)) (sym (rows_are ∙ ap (rows_of (length a)) i.is)) ∙ counts_plus a more
       in
@@ -363,16 +367,16 @@ module _ {text : List ℕ} {from n : ℕ} {a : List ℕ} {r : AtomRead} {counts 
       }
 
   -- and one that is none
-  pub atom_refused : {f : Refusal} → r ≡ Refused f → Answers text (spot from (operand n ∷ []) (totals a counts)) [] a (Read.Refused f)
-  atom_refused {f} e = record { right = (subst (λ (u : AtomRead). Tests text from (λ ts. ts) (operand n) u) e h).right (totals a counts) }
+  pub atom_refused : {f : Refusal} → r ≡ Err f → Answers text (spot from (operand n ∷ []) (totals a counts)) [] a (Read.Refused f)
+  atom_refused {f} e = record { right = (subst (λ (u : AtomAnswer). Tests text from (λ ts. ts) (operand n) u) e h).right (totals a counts) }
 
   -- and one whose letter is outside the alphabet
   pub atom_strays : {atom : Atom} {to q : ℕ}
-      → r ≡ Found atom to
+      → r ≡ found atom to
       → stray_of a atom ≡ Stray.At q
-      → Answers text (spot from (operand n ∷ []) (totals a counts)) [] a (Read.Refused (record { number = 6; place = q }))
+      → Answers text (spot from (operand n ∷ []) (totals a counts)) [] a (Read.Refused (record { reason = Reason.OutsideAlphabet; place = q }))
   atom_strays {q = q} e out =
-      let i = (subst (λ (u : AtomRead). Tests text from (λ ts. ts) (operand n) u) e h).right in
+      let i = (subst (λ (u : AtomAnswer). Tests text from (λ ts. ts) (operand n) u) e h).right in
       record {
         right =
             record {

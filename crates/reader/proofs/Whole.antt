@@ -13,7 +13,8 @@ use Rattle.rule.specs.Inside.Machine.{program, start, Totals, taken, refused, ru
 use Rattle.rule.proofs.Outcomes.{outcome_is}
 use Rattle.atoms.specs.Atom.{refusal_of}
 use Rattle.reader.specs.Inside.Answers.{spot, ComesTo, Stops, Answers, outcome_of}
-use Rattle.atoms.specs.declared.Refusal.{Refusal}
+use Rattle.table.specs.Refusal.{number_of}
+use Rattle.table.specs.declared.reason.Refusal.{Refusal}
 use Rattle.reader.specs.declared.answers.Read.{Read}
 use Rattle.reader.specs.declared.answers.Read.TheVariants.{Refused}
 
@@ -36,7 +37,7 @@ left text t ts e (Token.Broken p) h l = rw (h.none, h.ended, run)
 
 module _ {text : List ℕ} where
   -- it refuses
-  pub stopped : {r : Refusal} → Stops text (spot 0 (program ∷ []) start) r → outcome text ≡ refused r.number r.place
+  pub stopped : {r : Refusal} → Stops text (spot 0 (program ∷ []) start) r → outcome text ≡ refused (number_of r.reason) r.place
   stopped h = outcome_is h.here ∙ h.same []
 
   pub refused_outcome : {u : Read} {r : Refusal}
@@ -60,5 +61,5 @@ module _ {text : List ℕ} where
     pub more : {r : Refusal}
         → OneOf (0 ∷ 1 ∷ 2 ∷ 3 ∷ 5 ∷ []) (tag_of token-type.the_type k)
         → r ≡ refusal_of k
-        → outcome text ≡ refused r.number r.place
+        → outcome text ≡ refused (number_of r.reason) r.place
     more e right = comes_to ∙ left text t f.tokens f.ending k f.begins e ∙ ap (λ (u : Refusal). outcome_of (Refused u)) (sym right)

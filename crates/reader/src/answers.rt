@@ -5,7 +5,8 @@ ghost use Rattle.rule.specs.Inside.Class.{Fixed, spell};
 ghost use Rattle.rule.specs.Inside.Machine.{exact};
 ghost use Rattle.reader.specs.Inside.Answers.{totals, spot, Ready, Answers};
 
-use atoms::{Refusal, refuse};
+use atoms::refuse;
+use table::reason::Refusal;
 use text::Token;
 use tokeniser::token_at;
 

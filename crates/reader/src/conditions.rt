@@ -6,7 +6,8 @@ ghost use Rattle.reader.specs.Inside.Atoms.{NoSign, rows_of, stray_of};
 
 use super::answers::{Counts, Read};
 use super::letters::Letters;
-use atoms::{Atom, AtomRead, Refusal, Symbol, atom_at, refuse};
+use atoms::{Atom, AtomRead, Symbol, atom_at, refuse};
+use table::reason::{Reason, Refusal};
 use text::{Sign, Token};
 use tokeniser::token_at;
 
@@ -53,14 +54,17 @@ fn counted_atom_at(text: &[u8], at: usize, counts: Counts, letters: Letters) -> 
     ensures { (n : ℕ) → Answers text.now (spot at (operand n ∷ []) (totals (alphabet_of letters) counts)) [] (alphabet_of letters) result }
 {
     match atom_at(text, at) {
-        AtomRead::Found { atom, at: next } => match stray_of(atom, letters) {
+        Ok(AtomRead { atom, at: next }) => match stray_of(atom, letters) {
             Stray::Nowhere => Read::Went {
                 at: next,
                 counts: counts.plus(0, rows_of(atom, letters.count)),
             },
-            Stray::At(place) => Read::Refused(Refusal { number: 6, place }),
+            Stray::At(place) => Read::Refused(Refusal {
+                reason: Reason::OutsideAlphabet,
+                place,
+            }),
         },
-        AtomRead::Refused(refusal) => Read::Refused(refusal),
+        Err(refusal) => Read::Refused(refusal),
     }
 }
 
@@ -83,13 +87,19 @@ pub fn operand_at(text: &[u8], at: usize, counts: Counts, letters: Letters, left
     match sign {
         Sign::OpenParen => {
             if left == 0 {
-                return Read::Refused(Refusal { number: 8, place });
+                return Read::Refused(Refusal {
+                    reason: Reason::Depth,
+                    place,
+                });
             }
             condition_at(text, end, counts, letters, left - 1)
         }
         Sign::Not => {
             if left == 0 {
-                return Read::Refused(Refusal { number: 8, place });
+                return Read::Refused(Refusal {
+                    reason: Reason::Depth,
+                    place,
+                });
             }
             operand_at(text, end, counts, letters, left - 1)
         }

@@ -12,47 +12,37 @@ mod statements;
 
 ghost use Rattle.reader.specs.Reading.{ReadsTo};
 
+pub use answers::Counts;
 use answers::Read;
 use programs::program_of;
-
-#[derive(Clone, Copy)]
-pub enum Reading {
-    Taken { states: usize, rows: usize },
-    Refused { number: usize, place: usize },
-}
+use table::reason::{Reason, Refusal};
 
 // 10 and 11 come only behind a text that is otherwise right, so states and rows are counted past their limits.
-pub fn read(text: &[u8]) -> Reading
+pub fn read(text: &[u8]) -> Result<Counts, Refusal>
     ensures { ReadsTo text.now result }
 {
     if text.len() > 4096 {
-        return Reading::Refused {
-            number: 1,
+        return Err(Refusal {
+            reason: Reason::LongText,
             place: 0,
-        };
+        });
     }
     match program_of(text) {
-        Read::Refused(refusal) => Reading::Refused {
-            number: refusal.number,
-            place: refusal.place,
-        },
+        Read::Refused(refusal) => Err(refusal),
         Read::Went { at: _, counts } => {
             if counts.states > 128 {
-                return Reading::Refused {
-                    number: 10,
+                return Err(Refusal {
+                    reason: Reason::States,
                     place: text.len(),
-                };
+                });
             }
             if counts.rows > 1024 {
-                return Reading::Refused {
-                    number: 11,
+                return Err(Refusal {
+                    reason: Reason::Rows,
                     place: text.len(),
-                };
+                });
             }
-            Reading::Taken {
-                states: counts.states,
-                rows: counts.rows,
-            }
+            Ok(counts)
         }
     }
 }

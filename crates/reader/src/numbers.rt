@@ -6,7 +6,8 @@ ghost use Rattle.rule.specs.Inside.Machine.{number, outside};
 ghost use Rattle.reader.specs.Inside.Answers.{totals, spot, Ready, Answers};
 
 use super::answers::{Counts, Read};
-use atoms::{Refusal, refuse};
+use atoms::refuse;
+use table::reason::{Reason, Refusal};
 use text::Token;
 use tokeniser::token_at;
 
@@ -42,7 +43,10 @@ pub fn number_at(text: &[u8], at: usize, counts: Counts, greatest: usize) -> Rea
         return Read::Refused(refuse(token));
     };
     if out_of_range(&text[place..end], greatest) {
-        return Read::Refused(Refusal { number: 7, place });
+        return Read::Refused(Refusal {
+            reason: Reason::Number,
+            place,
+        });
     }
     Read::Went { at: end, counts }
 }

@@ -6,7 +6,8 @@ ghost use Rattle.reader.specs.Inside.Answers.{alphabet_of, Sized, totals, spot, 
 
 use super::answers::{Counts, Read, sign_at};
 use super::letters::Letters;
-use atoms::{Refusal, refuse};
+use atoms::refuse;
+use table::reason::{Reason, Refusal};
 use text::{Sign, Token, Word};
 use tokeniser::token_at;
 
@@ -54,13 +55,19 @@ fn letter_at(text: &[u8], at: usize, counts: Counts, listed: Letters) -> Setting
     };
     if listed.has(byte) {
         return Settings {
-            read: Read::Refused(Refusal { number: 5, place }),
+            read: Read::Refused(Refusal {
+                reason: Reason::Alphabet,
+                place,
+            }),
             letters: listed,
         };
     }
     if listed.count == 16 {
         return Settings {
-            read: Read::Refused(Refusal { number: 5, place }),
+            read: Read::Refused(Refusal {
+                reason: Reason::Alphabet,
+                place,
+            }),
             letters: listed,
         };
     }

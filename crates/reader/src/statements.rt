@@ -9,7 +9,8 @@ use super::answers::{Counts, Read, sign_at};
 use super::conditions::condition_at;
 use super::letters::Letters;
 use super::plain::{change_at, goto_at, move_at};
-use atoms::{Refusal, refuse};
+use atoms::refuse;
+use table::reason::{Reason, Refusal};
 use text::{Sign, Token, Word};
 use tokeniser::token_at;
 
@@ -33,7 +34,10 @@ pub fn block_at(text: &[u8], at: usize, counts: Counts, letters: Letters, left: 
         return Read::Refused(refuse(token));
     };
     if left == 0 {
-        return Read::Refused(Refusal { number: 8, place });
+        return Read::Refused(Refusal {
+            reason: Reason::Depth,
+            place,
+        });
     }
     statements_at(text, end, counts, letters, left - 1)
 }
@@ -202,7 +206,10 @@ fn branch_at(text: &[u8], at: usize, counts: Counts, letters: Letters, left: usi
             return last_arm(token, arm, arms_read);
         };
         if arms_read == 8 {
-            return Read::Refused(Refusal { number: 9, place });
+            return Read::Refused(Refusal {
+                reason: Reason::Arms,
+                place,
+            });
         }
         from = end;
         so_far = counted.plus(1, 2);

@@ -7,7 +7,8 @@ use Rattle.rule.specs.Inside.Class.{Class, classify}
 use Rattle.rule.specs.Inside.Machine.{Stack, Totals, Outcome, taken, refused, run}
 use Rattle.atoms.specs.Atom.{refusal_of}
 use Rattle.reader.specs.declared.answers.Counts.{Counts}
-use Rattle.atoms.specs.declared.Refusal.{Refusal}
+use Rattle.table.specs.Refusal.{number_of}
+use Rattle.table.specs.declared.reason.Refusal.{Refusal}
 use Rattle.reader.specs.declared.answers.Read.{Read}
 use Rattle.reader.specs.declared.answers.Read.TheVariants.{Went, Refused}
 use Rattle.reader.specs.declared.letters.Letters.{Letters}
@@ -52,7 +53,7 @@ pub record Stops (text : List ℕ) (s : Spot) (r : Refusal) : Type 0 where
   pub before : List Placed
   pub ending : Ending
   pub here : Tokens s.from (drop s.from text) before ending
-  pub same : (st : Stack) → run (s.expects ++ st) s.totals before ending ≡ refused r.number r.place
+  pub same : (st : Stack) → run (s.expects ++ st) s.totals before ending ≡ refused (number_of r.reason) r.place
 
 -- a text is short enough, a byte is in it, and the counts so far are small enough that none of them overflows
 pub record Ready (text : List ℕ) (from : ℕ) (counts : Counts) : Type 0 where
@@ -107,4 +108,4 @@ refused_with t l = record { read = Refused (refusal_of t); letters = l }
 -- an answer as what comes of a text
 abbrev pub outcome_of : Read → Outcome
 outcome_of (Went to counts) = taken counts.states counts.rows
-outcome_of (Refused r) = refused r.number r.place
+outcome_of (Refused r) = refused (number_of r.reason) r.place

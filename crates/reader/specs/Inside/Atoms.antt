@@ -1,5 +1,5 @@
 -- What the readers of a condition's atoms promise: the atom that the grammar derives, or a refusal.
-use Rattle.std.specs.Prelude.{ℕ, ◌+◌, ◌≤◌, ◌<◌, ◌≡◌, Bool, true, false, List, [], ◌∷◌, length, drop}
+use Rattle.std.specs.Prelude.{ℕ, ◌+◌, ◌≤◌, ◌<◌, ◌≡◌, Bool, true, false, List, [], ◌∷◌, length, drop, Ok, Err}
 use Rattle.text.specs.Token as Spelt
 use Rattle.text.specs.Token.{s}
 use Rattle.text.specs.Tokens.{Placed, ◌at◌, Ending, Tokens}
@@ -13,8 +13,7 @@ use Rattle.reader.specs.Inside.Answers.{spot, Stops}
 use Rattle.atoms.specs.declared.Symbol.{Symbol as Sought}
 use Rattle.atoms.specs.declared.Atom.{Atom}
 use Rattle.reader.specs.declared.conditions.Stray.{Stray}
-use Rattle.atoms.specs.declared.AtomRead.{AtomRead}
-use Rattle.atoms.specs.declared.AtomRead.TheVariants.{Found, Refused}
+use Rattle.atoms.specs.Atom as Reads
 
 -- an atom of the code is this one of the tree
 abbrev pub symbol_of : Tree.SymbolName → Sought
@@ -85,10 +84,10 @@ pub record IsFound (text : List ℕ) (from : ℕ) (lead : Ts → Ts) (atom : Ato
   pub forth : from < to
   pub inside : to ≤ length text
 
-abbrev pub TestsRight : List ℕ → ℕ → (Ts → Ts) → Expected → AtomRead → Type 0
-TestsRight text from lead x (Found atom to) = IsFound text from lead atom to
-TestsRight text from lead x (Refused r) = (t : Totals) → Stops text (spot from (x ∷ []) t) r
+abbrev pub TestsRight : List ℕ → ℕ → (Ts → Ts) → Expected → Reads.Read → Type 0
+TestsRight text from lead x (Ok found) = IsFound text from lead found.atom found.at
+TestsRight text from lead x (Err r) = (t : Totals) → Stops text (spot from (x ∷ []) t) r
 
 -- behind these tokens stands an atom, whatever letter it has, or else the machine, which expects this, refuses
-pub record Tests (text : List ℕ) (from : ℕ) (lead : Ts → Ts) (x : Expected) (r : AtomRead) : Type 0 where
+pub record Tests (text : List ℕ) (from : ℕ) (lead : Ts → Ts) (x : Expected) (r : Reads.Read) : Type 0 where
   pub right : TestsRight text from lead x r

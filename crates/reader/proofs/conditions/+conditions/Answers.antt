@@ -58,7 +58,7 @@ operand_at-returns-in_default t c = c.counted_atom_at.ensures (16 - c.args.left)
 
 pub operand_at-returns-then-left-eq0 : goal.operand_at-returns-then-left-eq0
 operand_at-returns-then-left-eq0 t c =
-    break (told_sign c.token_at-token.ensures c.in-Sign.is c.in-OpenParen.is) refl (none_left c.args.left c.if-left-eq0.true)
+    break (told_sign c.token_at-token.ensures c.in-Sign.is c.in-OpenParen.is) refl (none_left c.args.left c.if-left-eq0.true) refl
 
 pub operand_at-condition_at-requires : goal.operand_at-condition_at-requires
 operand_at-condition_at-requires t c =
@@ -67,7 +67,7 @@ operand_at-condition_at-requires t c =
 
 pub operand_at-returns-then-left-eq0-2 : goal.operand_at-returns-then-left-eq0-2
 operand_at-returns-then-left-eq0-2 t c =
-    break (told_sign c.token_at-token.ensures c.in-Sign.is c.in-Not.is) refl (none_left c.args.left c.if-left-eq0-2.true)
+    break (told_sign c.token_at-token.ensures c.in-Sign.is c.in-Not.is) refl (none_left c.args.left c.if-left-eq0-2.true) refl
 
 pub operand_at-operand_at-requires : goal.operand_at-operand_at-requires
 operand_at-operand_at-requires t c =

@@ -17,11 +17,11 @@ returns-in-Nowhere c =
     λ n.
     atom_answers
     (atom_tests c.requires.no_sign.0 c.atom_at.ensures n)
-    c.in-Found.is
+    c.in-Ok.is
     (sym c.stray_of.ensures ∙ c.in-Nowhere.is)
     c.requires.ready
     few
-    (c.rows_of.ensures ∙ ap (λ (k : ℕ). rows_of k c.in-Found.atom) (sym sized))
+    (c.rows_of.ensures ∙ ap (λ (k : ℕ). rows_of k c.in-Ok.field-0.atom) (sym sized))
     c.plus.ensures
 
 pub returns-in-At : goal.returns-in-At
@@ -29,8 +29,8 @@ returns-in-At c =
     λ n.
     atom_strays
     (atom_tests c.requires.no_sign.0 c.atom_at.ensures n)
-    c.in-Found.is
+    c.in-Ok.is
     (sym c.stray_of.ensures ∙ c.in-At.is)
 
-pub returns-in-Refused : goal.returns-in-Refused
-returns-in-Refused c = λ n. atom_refused (atom_tests c.requires.no_sign.0 c.atom_at.ensures n) c.in-Refused.is
+pub returns-in-Err : goal.returns-in-Err
+returns-in-Err c = λ n. atom_refused (atom_tests c.requires.no_sign.0 c.atom_at.ensures n) c.in-Err.is

@@ -16,6 +16,7 @@ returns-then-out_of_range c =
     (front_number c.token_at-token.ensures c.in-Number.is)
     refl
     (sym c.out_of_range.ensures ∙ c.if-out_of_range.true)
+    refl
 
 pub returns : goal.returns
 returns c =

@@ -16,7 +16,7 @@ returns-then-has c =
     let sized = c.requires.sized in
     record {
       answers =
-          break (front_letter c.token_at-token.ensures c.in-Letter.is) refl (repeated c.in-Letter.byte sized (sym c.has.ensures ∙ c.if-has.true));
+          break (front_letter c.token_at-token.ensures c.in-Letter.is) refl (repeated c.in-Letter.byte sized (sym c.has.ensures ∙ c.if-has.true)) refl;
       sized = sized;
     }
 
@@ -28,7 +28,7 @@ returns-then-listed-eq16 c =
           break
           (front_letter c.token_at-token.ensures c.in-Letter.is)
           refl
-          (seventeenth c.in-Letter.byte sized (sym c.has.ensures ∙ c.if-has.false) c.if-listed-eq16.true);
+          (seventeenth c.in-Letter.byte sized (sym c.has.ensures ∙ c.if-has.false) c.if-listed-eq16.true) refl;
       sized = sized;
     }
 

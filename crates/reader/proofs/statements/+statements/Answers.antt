@@ -27,7 +27,7 @@ block_at-returns-in_default-sign t c = refuses_sign c.token_at-token.ensures c.i
 
 pub block_at-returns-then-left-eq0 : goal.block_at-returns-then-left-eq0
 block_at-returns-then-left-eq0 t c =
-    break (told_sign c.token_at-token.ensures c.in-Sign.is c.in-OpenBrace.is) refl (none_left c.args.left c.if-left-eq0.true)
+    break (told_sign c.token_at-token.ensures c.in-Sign.is c.in-OpenBrace.is) refl (none_left c.args.left c.if-left-eq0.true) refl
 
 pub block_at-statements_at-requires : goal.block_at-statements_at-requires
 block_at-statements_at-requires t c =
