@@ -3,7 +3,7 @@
 use Prim.Native.Nat.{ℕ, zero, suc, ◌+◌, ◌-◌, ◌≤◌, ◌<◌}
 use native.Mathlib.Omega.{arith}
 use native.Mathlib.Numerals.{add-one}
-use mathlib.Core.Path.{◌≡◌, refl, sym, ◌∙◌, ap}
+use mathlib.Core.Path.{◌≡◌, refl, sym, ◌∙◌, ap, subst}
 use mathlib.Core.Bool.{Bool, true, false, not, true≢false}
 use mathlib.Core.List.{List, [], ◌∷◌}
 use lib.Dec.{T}
@@ -45,11 +45,18 @@ use Rattle.rule.specs.Grammar.{
 }
 use Rattle.compiler.specs.Inside.Seeing as Seen
 use Rattle.compiler.specs.Inside.Seeing.{Here, SeenAs}
-use Rattle.compiler.specs.Inside.Operators.{Bracketing, opening, closing, and, or, other, look_at, mark_of, marked, onward, ahead}
+use Rattle.compiler.specs.Inside.Operators.{is_or, Bracketing, opening, closing, and, or, other, look_at, mark_of, marked, onward, ahead}
 use Rattle.compiler.specs.Inside.Emission.{Closes, by_paren, by_or, joins, joined}
 use Rattle.std.specs.declared.ops.ControlFlow.{ControlFlow}
 use Rattle.std.specs.declared.ops.ControlFlow.TheVariants.{Continue, Break}
-use Rattle.compiler.proofs.Seeing.{seen_behind}
+use Rattle.compiler.specs.declared.ahead.Operator.{Operator}
+use Rattle.compiler.specs.contracts.ahead.Operator.{the_type as operator_type}
+use denote.Enum.Bare.{sameb}
+use Rattle.std.specs.Prelude.{Some, None}
+use Rattle.text.specs.First.{FirstToken}
+use Rattle.text.specs.declared.Token.{Token}
+use Rattle.compiler.specs.Inside.Seeing.{end_of}
+use Rattle.compiler.proofs.Seeing.{sign_in, seen_behind, first_seen, first_falls, end_some, end_none}
 
 -- what the code finds at a sign, by the sign and the depth
 module _ (depth : ℕ) (sought : Bool) where
@@ -91,6 +98,15 @@ pub look_deep_and : (depth : ℕ) (sought : Bool) → (depth ≡ 0 → ⊥) → 
 unfolding look_at
 look_deep_and zero sought n = absurd (n refl)
 look_deep_and (suc depth) sought n = refl
+
+-- which operator is sought, as the code asks
+pub or_told : (o : Operator) → sameb operator_type o Operator.Or ≡ is_or o
+or_told Operator.And = refl
+or_told Operator.Or = refl
+
+pub and_told : (o : Operator) → sameb operator_type o Operator.And ≡ not (is_or o)
+and_told Operator.And = refl
+and_told Operator.Or = refl
 
 -- a sign that is none of these counts for nothing
 pub other_mark : (ks : List ℕ) (x : Sign)
@@ -313,6 +329,29 @@ module _ {text : List ℕ} (sought : Bool) (all : List Placed) {place : ℕ} (de
     -- else it is looked on
     pub looked_on : (more : ℕ) → place < e → look_at (mark_of g) depth sought ≡ Continue more → Looking text sought all e more
     looked_on more some is = seen_on sought depth all l.rest more l.same seen some is
+
+-- and past a token that is no sign
+pub looked_past : {text : List ℕ} (sought : Bool) (all : List Placed) {place : ℕ} (depth : ℕ) {e : ℕ} {r : Token}
+    → Looking text sought all place depth
+    → FirstToken text place r
+    → sign_in r ≡ Sign.Semicolon
+    → end_of r ≡ Some e
+    → Looking text sought all e depth
+looked_past {text} sought all {place} depth {r = r} l first none end =
+    let falls = first_falls r first end in
+    let is = end_some place r end in
+    subst (λ (n : ℕ). Looking text sought all n depth) is
+    (looked_on sought all depth l (first_seen r first refl _ l.here) depth (omega (arith, falls, is))
+    (ap (λ (g : Sign). look_at (mark_of g) depth sought) none ∙ sym (look_other depth sought)))
+
+-- with no token left there is no operator
+pub looked_end : {text : List ℕ} (sought : Bool) (all : List Placed) {place : ℕ} (depth : ℕ) {r : Token}
+    → Looking text sought all place depth
+    → FirstToken text place r
+    → end_of r ≡ None
+    → false ≡ ahead sought 0 all
+looked_end sought all {place} depth {r = r} l first none =
+    looked_out sought all depth l (first_seen r first refl _ l.here) (omega (arith, end_none place r none))
 
 -- and not deeper than by one
 pub looked_deeper : (m : Bracketing) (depth : ℕ) (sought : Bool) (more : ℕ) → look_at m depth sought ≡ Continue more → more ≤ depth + 1

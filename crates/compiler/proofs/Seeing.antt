@@ -4,10 +4,10 @@ use native.Mathlib.Omega.{arith}
 use native.Mathlib.Numerals.{add-one}
 use native.Mathlib.Decide.{dec_lt}
 use mathlib.Core.Path.{◌≡◌, refl, sym, ◌∙◌, ap, subst}
-use mathlib.Core.Bool.{not}
+use mathlib.Core.Bool.{Bool, not}
 use mathlib.Core.List.{List, [], ◌∷◌, cons≢nil}
-use Rattle.std.specs.Prelude.{unwrap_or}
-use lib.ListN.{length, get_or, take, drop, drop_of_length-le}
+use Rattle.std.specs.Prelude.{unwrap_or, Option, Some, None}
+use lib.ListN.{length, get_or, drop, length-drop, drop_of_length-le}
 use lib.Seq.{drop-drop, drop-cons}
 use lib.Dec.{T, leb, leb→le, eqb, T_not}
 use Rattle.bits.specs.Byte.{is_digit, is_letter}
@@ -27,7 +27,8 @@ use Rattle.text.proofs.Follow.{place_of, first_onward}
 use Rattle.rule.specs.Limits.{value_from}
 use Rattle.compiler.specs.Inside.Seeing as Seen
 use Rattle.compiler.proofs.Tags.{word_tag, sign_tag}
-use Rattle.compiler.specs.Inside.Seeing.{Here, Behind, SeenAs, nothing, Sees, end_of, Reaches, Digits}
+use Rattle.compiler.specs.Inside.Seeing.{Here, Behind, SeenAs, nothing, Sees, end_of, Reaches, GoesPast, Skips, SeesWord, SeesSign, NotWord, NotSign, EatsSign, Digits}
+use Rattle.compiler.specs.declared.see.Cursor.{Cursor}
 
 -- what each answer shows
 abbrev pub word_in : Token → Word
@@ -129,6 +130,22 @@ pub word_stands : {text : List ℕ} {from q : ℕ} {us : List Placed} {l : List 
     → Here text from ((word l at q) ∷ us)
     → (p : ℕ) × (k : ℕ) × (x : Word) × (r ≡ Token.Word p k x)
 word_stands {r = r} f h = word_begins _ _ _ _ _ r (comes h.tokens f)
+
+sign_begins : (text : List ℕ) (l : List ℕ) (q : ℕ) (us : List Placed) (e : Ending) (r : Token)
+    → Begins text ((sign l at q) ∷ us) e r
+    → (p : ℕ) × (k : ℕ) × (x : Sign) × (r ≡ Token.Sign p k x)
+sign_begins text l q us e (Token.Word p k x) b = absurd (let same = b.next.first in cc)
+sign_begins text l q us e (Token.Number p k) b = absurd (let same = b.first in cc)
+sign_begins text l q us e (Token.Letter p k c) b = absurd (let same = b.first in cc)
+sign_begins text l q us e (Token.Sign p k x) b = (p, k, x, refl)
+sign_begins text l q us e (Token.End p) b = absurd (let same = b.none in cc)
+sign_begins text l q us e (Token.Broken p) b = absurd (let same = b.none in cc)
+
+pub sign_stands : {text : List ℕ} {from q : ℕ} {us : List Placed} {l : List ℕ} {r : Token}
+    → FirstToken text from r
+    → Here text from ((sign l at q) ∷ us)
+    → (p : ℕ) × (k : ℕ) × (x : Sign) × (r ≡ Token.Sign p k x)
+sign_stands {r = r} f h = sign_begins _ _ _ _ _ r (comes h.tokens f)
 
 letter_begins : (text : List ℕ) (a : ℕ) (q : ℕ) (us : List Placed) (e : Ending) (r : Token)
     → Begins text ((letter a at q) ∷ us) e r
@@ -315,3 +332,129 @@ pub letter_read : {text : List ℕ} {from q p e : ℕ} {c : ℕ} {us : List Plac
     → SeenAs text from ((letter c at q) ∷ us) x g b p e
     → (b ≡ c) × Behind text from e us
 letter_read (Seen.a_letter t h) = (refl, h)
+
+-- the word that is wanted, or another, or none; and so with a sign
+pub word_hit : {text : List ℕ} {from : ℕ} {s : Token} {p e : ℕ} {x y : Word} → FirstToken text from s → s ≡ Token.Word p e x → x ≡ y → SeesWord text from e y
+word_hit {text} {from} {p = p} {e = e} {x = x} f is same =
+    record { sign = _; byte = _; start = _; sees = subst (λ (z : Word). Sees text from (record { word = z; sign = Sign.Semicolon; byte = 0; start = p; end = e })) same (sees_first (Token.Word p e x) f is) }
+
+pub sign_hit : {text : List ℕ} {from : ℕ} {s : Token} {p e : ℕ} {x y : Sign} → FirstToken text from s → s ≡ Token.Sign p e x → x ≡ y → SeesSign text from e y
+sign_hit {text} {from} {p = p} {e = e} {x = x} f is same =
+    record { word = _; byte = _; start = _; sees = subst (λ (z : Sign). Sees text from (record { word = Word.Other; sign = z; byte = 0; start = p; end = e })) same (sees_first (Token.Sign p e x) f is) }
+
+pub word_miss : {text : List ℕ} {from : ℕ} {s : Token} {y : Word} → FirstToken text from s → ((p e : ℕ) (x : Word) → s ≡ Token.Word p e x → ¬ (x ≡ y)) → NotWord text from y
+word_miss {y = y} f other =
+    record {
+      other = λ here is.
+          let (p, e, x, same) = word_stands f here in
+          other p e x same (seen_word y (first_seen (Token.Word p e x) f same _ here) is);
+    }
+
+pub sign_miss : {text : List ℕ} {from : ℕ} {s : Token} {y : Sign} → FirstToken text from s → ((p e : ℕ) (x : Sign) → s ≡ Token.Sign p e x → ¬ (x ≡ y)) → NotSign text from y
+sign_miss {y = y} f other =
+    record {
+      other = λ here is.
+          let (p, e, x, same) = sign_stands f here in
+          other p e x same (seen_sign y (first_seen (Token.Sign p e x) f same _ here) is);
+    }
+
+-- one token more is passed
+pub skip_more : {text : List ℕ} {from i mid end : ℕ} (r : Token) (ts : List Placed)
+    → i < length ts
+    → Reaches text from i mid (drop i ts)
+    → FirstToken text mid r
+    → end ≡ end_from mid r
+    → Reaches text from (i + 1) end (drop (i + 1) ts)
+skip_more {text} {from} {i} r ts more reach first is =
+    subst (λ (n : ℕ). Reaches text from (i + 1) n (drop (i + 1) ts)) (sym is)
+    (reach_more _ ts more reach (tail_behind (drop i ts) (omega (arith, length-drop i ts)) (first_seen r first refl (drop i ts) reach.here)))
+
+-- the digits of a number that stands there
+module _ {text : List ℕ} {from q p e : ℕ} {n : List ℕ} {us : List Placed} {r : Token}
+    (first : FirstToken text from r) (is : r ≡ Token.Number p e) (here : Here text from ((number n at q) ∷ us)) where
+  number_seen : (n ≡ part text p e) × T (every is_digit n) × (p ≤ e) × Behind text from e us
+  number_seen = number_read (first_seen (Token.Number p e) first is _ here)
+
+  pub number_within : (p ≤ e) × (e ≤ length text)
+  number_within = let (same, digits, order, behind) = number_seen in (order, behind.within)
+
+  pub number_digits : value_from 0 n ≤ 63 → Digits (part text p e)
+  number_digits small =
+      let (same, digits, order, behind) = number_seen in
+      record {
+        digits = subst (λ (l : List ℕ). T (every is_digit l)) same digits;
+        small = subst (λ (l : List ℕ). value_from 0 l ≤ 63) same small;
+      }
+
+  pub number_value : {value : ℕ} → value ≡ value_from 0 (part text p e) → (value ≡ value_from 0 n) × Behind text from e us
+  number_value counted =
+      let (same, digits, order, behind) = number_seen in
+      (counted ∙ ap (value_from 0) (sym same), behind)
+
+-- a token ends behind the place at which it was asked for, and in the text
+pub first_falls : {text : List ℕ} {from : ℕ} {e : ℕ} (r : Token) → FirstToken text from r → end_of r ≡ Some e → (from < e) × (e ≤ length text)
+first_falls {e = e} (Token.Word p q x) f same =
+    let is : q ≡ e = cc in
+    (omega (arith, first_onward f, f.begins.next.some), omega (arith, f.begins.next.within))
+first_falls {e = e} (Token.Number p q) f same =
+    let is : q ≡ e = cc in
+    (omega (arith, first_onward f, f.begins.some), omega (arith, f.begins.within))
+first_falls {e = e} (Token.Letter p q b) f same =
+    let is : q ≡ e = cc in
+    (omega (arith, first_onward f, f.begins.some), omega (arith, f.begins.within))
+first_falls {e = e} (Token.Sign p q x) f same =
+    let is : q ≡ e = cc in
+    (omega (arith, first_onward f, f.begins.some), omega (arith, f.begins.within))
+first_falls (Token.End p) f same = absurd cc
+first_falls (Token.Broken p) f same = absurd cc
+
+-- where no sign is answered none is seen, and a token that ends somewhere is seen up to there
+pub unsigned : (r : Token) → ((p e : ℕ) (x : Sign) → r ≡ Token.Sign p e x → ⊥) → sign_in r ≡ Sign.Semicolon
+unsigned (Token.Word p q x) other = refl
+unsigned (Token.Number p q) other = refl
+unsigned (Token.Letter p q b) other = refl
+unsigned (Token.Sign p q x) other = absurd (other p q x refl)
+unsigned (Token.End p) other = refl
+unsigned (Token.Broken p) other = refl
+
+pub end_some : (from : ℕ) {e : ℕ} (r : Token) → end_of r ≡ Some e → end_from from r ≡ e
+end_some from r same = sym (end_or from r) ∙ ap (λ (o : Option ℕ). unwrap_or o from) same
+
+pub end_none : (from : ℕ) (r : Token) → end_of r ≡ None → end_from from r ≡ from
+end_none from r same = sym (end_or from r) ∙ ap (λ (o : Option ℕ). unwrap_or o from) same
+
+-- the same in a text that is equal, and from a cursor that is equal
+pub passes_in : {k r : Cursor} {text : List ℕ} {many : ℕ} → k.text.now ≡ text → Skips k r many → GoesPast text k.at many r.at
+passes_in {k} {r} {many = many} same skips = subst (λ (t : List ℕ). GoesPast t k.at many r.at) same skips.passes
+
+module _ {text' text : List ℕ} (same : text' ≡ text) {from : ℕ} where
+  pub word_in_text : {end : ℕ} {x : Word} → SeesWord text' from end x → SeesWord text from end x
+  word_in_text {end} {x} = subst (λ (t : List ℕ). SeesWord t from end x) same
+
+  pub sign_in_text : {end : ℕ} {x : Sign} → SeesSign text' from end x → SeesSign text from end x
+  sign_in_text {end} {x} = subst (λ (t : List ℕ). SeesSign t from end x) same
+
+  pub no_word_in_text : {x : Word} → NotWord text' from x → NotWord text from x
+  no_word_in_text {x} = subst (λ (t : List ℕ). NotWord t from x) same
+
+  pub no_sign_in_text : {x : Sign} → NotSign text' from x → NotSign text from x
+  no_sign_in_text {x} = subst (λ (t : List ℕ). NotSign t from x) same
+
+pub eats_from : {k k' r : Cursor} {x : Sign} {found : Bool} → k' ≡ k → EatsSign k' r x found → EatsSign k r x found
+eats_from {r = r} {x = x} {found = found} same = subst (λ (k : Cursor). EatsSign k r x found) same
+
+pub skips_from : {k k' r : Cursor} {many : ℕ} → k' ≡ k → Skips k' r many → Skips k r many
+skips_from {r = r} {many = many} same = subst (λ (k : Cursor). Skips k r many) same
+
+-- past so many tokens and not past another that is not the one that is wanted
+pub missed_sign : {k k₁ k₂ : Cursor} {many : ℕ} {x : Sign} → Skips k k₁ many → NotSign k₁.text.now k₁.at x × (k₂ ≡ k₁) → Skips k k₂ many × NotSign k.text.now k₂.at x
+missed_sign {k} {many = many} {x = x} skips (none, same) = (
+  subst (λ (c : Cursor). Skips k c many) (sym same) skips,
+  subst (λ (c : Cursor). NotSign k.text.now c.at x) (sym same) (no_sign_in_text skips.text none),
+)
+
+pub missed_word : {k k₁ k₂ : Cursor} {many : ℕ} {x : Word} → Skips k k₁ many → NotWord k₁.text.now k₁.at x × (k₂ ≡ k₁) → Skips k k₂ many × NotWord k.text.now k₂.at x
+missed_word {k} {many = many} {x = x} skips (none, same) = (
+  subst (λ (c : Cursor). Skips k c many) (sym same) skips,
+  subst (λ (c : Cursor). NotWord k.text.now c.at x) (sym same) (no_word_in_text skips.text none),
+)

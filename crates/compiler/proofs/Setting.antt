@@ -2,12 +2,14 @@
 use Prim.Native.Nat.{ℕ, suc, ◌+◌, ◌≤◌, ◌<◌}
 use native.Mathlib.Omega.{arith}
 use mathlib.Core.Path.{◌≡◌, refl, sym, ◌∙◌, ap, subst, subst₂}
-use mathlib.Core.Bool.{Bool, true, false}
+use mathlib.Core.Bool.{Bool}
 use mathlib.Core.List.{List, [], ◌∷◌, ◌++◌, append_assoc}
 use lib.ListN.{length, get_or, take, drop, set, length-append, length-drop, take-append-drop}
-use lib.Seq.{drop-cons, drop-drop, set_at, length-take-le}
+use lib.Seq.{drop-cons, set_at, length-take-le}
 use Rattle.text.specs.Token.{letter, word, w, s}
-use Rattle.text.specs.Tokens.{Placed, ◌at◌}
+use Rattle.text.specs.Tokens.{◌at◌}
+use denote.Enum.Bare.{sameb}
+use Rattle.text.specs.contracts.Word.{the_type}
 use Rattle.text.specs.declared.Word.{Word}
 use Rattle.text.specs.declared.Sign.{Sign}
 use Rattle.table.specs.Form.{letters_place, rows_place}
@@ -36,7 +38,7 @@ use Rattle.construction.specs.Construction.{program_part, construct}
 use Rattle.construction.specs.Compile.{image_room}
 use Rattle.bits.specs.Inside.Over.{over}
 use Rattle.compiler.specs.Inside.Writing.{accept_bytes, written, row_place, Holds, Heads}
-use Rattle.compiler.specs.Inside.Seeing.{Here, Behind, Skips, SeesWord, SeesSign, NotWord, NotSign, GoesPast, AtWord, AtLetter, ReadsLetter}
+use Rattle.compiler.specs.Inside.Seeing.{Here, Behind, SeesWord, SeesSign, NotWord, NotSign, GoesPast, AtWord, AtLetter, ReadsLetter}
 use Rattle.compiler.specs.Inside.Emission.{Emits, RestTask, the_rest}
 use Rattle.compiler.specs.Inside.Setting.{LettersAt, Letters, Listing, Lists, TruthAt, yes_at, no_at, AtTruth, Tells, SettingsAt, Settings, Settling, Settles, Fits, sheet_of, Beginning, Image}
 use Rattle.compiler.specs.declared.Emitter.{Emitter}
@@ -182,7 +184,7 @@ module _ {text before out : List ℕ} {place mid count b : ℕ} {us : Ts} {l : L
         count = counted ∙ ap length whole ∙ length-letter_bytes l;
       }
   last bytes (more m) here all written counted other pass =
-      absurd (other.other (seen_sign Sign.Comma (other.sees.stands _ (reads.reads here).1.here) refl))
+      absurd (other.other (reads.reads here).1.here refl)
 
 -- a turn of the loop
 module _ {text before out : List ℕ} {from place mid count b : ℕ} {ts us : Ts} {l : List Letter}
@@ -223,13 +225,11 @@ module _ {text : List ℕ} {place mid end : ℕ} {x : Word} (sees : SeesWord tex
   truth_behind here yes_at = (pass.behind _ (seen_behind (sees.sees.stands _ here)).here (omega arith)).here
   truth_behind here no_at = (pass.behind _ (seen_behind (sees.sees.stands _ here)).here (omega arith)).here
 
-  pub true_told : {ts us : Ts} {d : Bool} → x ≡ Word.True → Here text place ts → TruthAt ts d us → true ≡ d
-  true_told is here yes_at = refl
-  true_told is here no_at = let same : x ≡ Word.False = seen_word Word.False (sees.sees.stands _ here) refl in absurd cc
-
-  pub false_told : {ts us : Ts} {d : Bool} → (x ≡ Word.True → ⊥) → Here text place ts → TruthAt ts d us → false ≡ d
-  false_told other here yes_at = absurd (other (seen_word Word.True (sees.sees.stands _ here) refl))
-  false_told other here no_at = refl
+  pub told_is : {ts us : Ts} {d told : Bool} → told ≡ sameb the_type x Word.True → Here text place ts → TruthAt ts d us → told ≡ d
+  told_is asked here yes_at =
+      asked ∙ ap (λ (y : Word). sameb the_type y Word.True) (seen_word Word.True (sees.sees.stands _ here) refl)
+  told_is asked here no_at =
+      asked ∙ ap (λ (y : Word). sameb the_type y Word.True) (seen_word Word.False (sees.sees.stands _ here) refl)
 
 -- `decr_on_zero`, two tokens before its truth
 record DecrementOf (ts us : Ts) (d : Bool) : Type 0 where
@@ -309,7 +309,7 @@ module _ {text out : List ℕ} {start : ℕ} where
       → GoesPast text start 2 from
       → LettersLast text out from us l d
   second (alphabet_first (alphabet letters) decrement) here few room other pass =
-      absurd (other.other (seen_word Word.Alphabet (other.sees.stands _ here) refl))
+      absurd (other.other here refl)
   second {from = from} (decrement_first decrement (alphabet {u = u} {v = v} {ts = inner} {us = after} letters)) here few room other pass =
       let o = decrement_of decrement in
       record {
@@ -344,9 +344,6 @@ module _ {text out : List ℕ} {start : ℕ} where
   letters_last other pass a = second a.settings a.here a.few a.room other pass
 
 -- what a function goes past, sees, lists and tells, in the text that it goes over
-pub passes_in : {k r : Cursor} {text : List ℕ} {many : ℕ} → k.text.now ≡ text → Skips k r many → GoesPast text k.at many r.at
-passes_in {k} {r} {many = many} same skips = subst (λ (t : List ℕ). GoesPast t k.at many r.at) same skips.passes
-
 pub lists_in : {k r : Cursor} {text before after : List ℕ} {many : ℕ} {ts us : Ts} {l : List Letter}
     → k.text.now ≡ text
     → Lists k r before after many
@@ -504,13 +501,14 @@ module _ {text before : List ℕ} {states rows : ℕ} {p : Program} (fits : Fits
         }
 
 -- when that is emitted too, the buffer begins with the image
-pub whole_image : {text before : List ℕ} {states rows : ℕ} {p : Program} {e r : Emitter}
+pub whole_image : {text before after : List ℕ} {states rows : ℕ} {p : Program} {e r : Emitter}
     → Fits text before states rows p
     → Beginning text before states rows p e
     → Emits RestTask e r
-    → Image before r.out.now p r.row
+    → after ≡ r.out.now
+    → Image before after p r.row
 unfolding construct
-whole_image {before = before} {states = states} {rows = rows} {p = p} {r = r} fits b emits =
+whole_image {before = before} {states = states} {rows = rows} {p = p} {r = r} fits b emits last =
     let h = sheet_of before states rows p in
     let part = program_part p in
     let filled = (emits.emits b.doing).stands.filled in
@@ -526,7 +524,8 @@ whole_image {before = before} {states = states} {rows = rows} {p = p} {r = r} fi
     in
     record {
       written =
-          filled.holds.bytes
+          last
+          ∙ filled.holds.bytes
           ∙ ap (λ (l : List ℕ). l ++ drop (row_place h part.rows) before) same
           ∙ ap (λ (n : ℕ). encode (construct p) ++ drop n before) (sym filled.here);
       long = filled.here ∙ sym (length-written h part.accepting part.rows) ∙ ap length same;

@@ -245,7 +245,7 @@ module _ {text : List ℕ} {start : ℕ} where
         }
     move_forward back here within is other =
         let r = pass.behind _ here (omega arith) in
-        absurd (other.other (seen_sign Sign.Minus (other.sees.stands _ r.here) refl))
+        absurd (other.other r.here refl)
 
     -- goto: to the left mark, or to the right
     goto_lend_lem : {ts us : Ts} {e : Plain} {end : ℕ}
@@ -273,7 +273,7 @@ module _ {text : List ℕ} {start : ℕ} where
     unfolding move_code change_code
     goto_rend_lem to_lend here is other =
         let r = pass.behind _ here (omega arith) in
-        absurd (other.other (seen_word Word.Lend (other.sees.stands _ r.here) refl))
+        absurd (other.other r.here refl)
     goto_rend_lem to_rend here is other =
         let r = pass.behind _ here (omega arith) in
         record { onward = omega (arith, r.onward); rest = _; here = r.here; enough = omega arith; ends = refl; is = is }
@@ -375,9 +375,9 @@ module _ {text : List ℕ} {start : ℕ} {part : Part} {p next : ℕ} where
       → part ≡ step_part (move_code e) (change_code e) p next
       → Counted text start from 1 us part p next 31 (λ _. no_move) (λ v. no_change - v)
   unfolding move_code change_code PlainWithin
-  fourth pass i j k up here within is = absurd (i.other (seen_sign Sign.Increment (i.sees.stands _ here) refl))
-  fourth pass i j k down here within is = absurd (j.other (seen_sign Sign.Decrement (j.sees.stands _ here) refl))
-  fourth pass i j k up_by here within is = absurd (k.other (seen_sign Sign.Add (k.sees.stands _ here) refl))
+  fourth pass i j k up here within is = absurd (i.other here refl)
+  fourth pass i j k down here within is = absurd (j.other here refl)
+  fourth pass i j k up_by here within is = absurd (k.other here refl)
   fourth pass i j k down_by here within is =
       let r = pass.behind _ here (omega arith) in
       record {

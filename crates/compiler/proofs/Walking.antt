@@ -6,13 +6,10 @@ use mathlib.Core.Bool.{Bool, true, false, not}
 use mathlib.Core.List.{List, [], ◌∷◌, ◌++◌, append-nil, append_assoc}
 use lib.ListN.{length}
 use lib.Dec.{T, eqb}
-use types.Run.{OneOf, miss}
-use denote.Enum.Declared.{tag_of}
 use Rattle.text.specs.Token.{s}
 use Rattle.text.specs.Token.{sign as signed}
 use Rattle.text.specs.First.{written}
 use Rattle.text.specs.Tokens.{◌at◌}
-use Rattle.text.specs.declared.Word.{Word}
 use Rattle.text.specs.declared.Sign.{Sign}
 use Rattle.table.specs.Table.{Row}
 use Rattle.rule.specs.Tree.{Atom, Condition}
@@ -21,12 +18,11 @@ use Rattle.rule.specs.Inside.Within.{AtomWithin, ConditionWithin}
 use Rattle.construction.specs.Construction.{Part, atom_rows, Added, walk, one_after_other, one_or_other, test}
 use Rattle.compiler.specs.Inside.Writing.{Sheet, Filled, Room, Writes}
 use Rattle.compiler.specs.Inside.Seeing.{Here, Seen, SeenAs, Sees, NotSign, GoesPast}
-use Rattle.atoms.specs.Atom.{AtomAt}
+use Rattle.atoms.specs.Atom.{Read, AtomAt}
 use Rattle.reader.specs.Inside.Atoms.{atom_of}
 use Rattle.atoms.specs.declared.Atom.{Atom as Tested}
 use Rattle.atoms.specs.declared.AtomRead.{AtomRead}
-use Rattle.atoms.specs.declared.AtomRead.TheVariants.{Found, Refused}
-use Rattle.atoms.specs.contracts.AtomRead as read-type
+use Rattle.std.specs.Prelude.{Ok}
 use Rattle.compiler.specs.Inside.Atoms.{rows_of}
 use Rattle.compiler.specs.Inside.Place.{Place}
 use Rattle.compiler.specs.Inside.Emission.{At, Doing, Emitted, rows_part, added_part, AtomTask, an_atom, Closes, by_paren, by_or, by_any, WalkTask, walks, joins, joined, takes, via_to, via_from, via_next, Leads, TestTask, tests}
@@ -35,7 +31,7 @@ use Rattle.compiler.specs.declared.walk.Course.{Course}
 use Rattle.construction.proofs.Parts.{leads_walk}
 use Rattle.compiler.proofs.Tags.{sign_tag}
 use Rattle.compiler.proofs.Operators.{operator, join, no_operator, one_operator}
-use Rattle.compiler.proofs.Seeing.{here_some, seen_sign, SignAt, sign_at}
+use Rattle.compiler.proofs.Seeing.{here_some, SignAt, sign_at}
 use Rattle.compiler.proofs.AtomTokens.{FoundAt, atom_found, rows_are_lem}
 use Rattle.compiler.proofs.Emission.{at_room, at_rows, at_moved, at_past, at_onward, emitted_as, emitted_past, rows_emitted, fits_first, fits_then}
 
@@ -51,14 +47,6 @@ record AtomOf (to : ℕ) (sign : Bool) (alphabet : List ℕ) (p next : ℕ) (ts 
 atom_of_lem : {to : ℕ} {sign : Bool} {alphabet : List ℕ} {p next : ℕ} {ts us : Ts} {part : Part} → AtomTask to sign alphabet p next ts us part → AtomOf to sign alphabet p next ts us part
 atom_of_lem (an_atom d within below) = record { place = _; atom = _; derived = d; within = within; below = below; is = refl }
 
-abbrev atom_in : Tested → AtomRead → Tested
-atom_in default (Found a end) = a
-atom_in default (Refused r) = default
-
-abbrev end_in : AtomRead → ℕ
-end_in (Found a end) = end
-end_in (Refused r) = 0
-
 module _ {text out : List ℕ} {place : Place} {to : ℕ} {sign : Bool} {h : Sheet} {accepting : List ℕ} {rows : List Row} {p next : ℕ} {ts us : Ts} {part : Part} (d : Doing (AtomTask to sign) text out place h accepting rows p next ts us part) where
   abbrev task : AtomOf to sign h.alphabet p next ts us part
   task = atom_of_lem d.is
@@ -69,42 +57,45 @@ module _ {text out : List ℕ} {place : Place} {to : ℕ} {sign : Bool} {h : She
       let next-is : part.next ≡ next = ap (λ (x : Part). x.next) task.is in
       (omega (arith, d.stands.state, d.stands.taken, d.states), omega (arith, task.below, d.states))
 
-  module _ {r : AtomRead} (reads : AtomAt text place.at r) where
+  module _ {r : Read} (reads : AtomAt text place.at r) where
     abbrev found : FoundAt text place.at us (atom_of task.atom) r
     found = atom_found h.alphabet reads d.stands.here task.derived task.within
 
     -- it is not refused
-    pub atom_not_refused : OneOf (1 ∷ []) (tag_of read-type.the_type r) → ⊥
-    atom_not_refused left = miss (1 ∷ []) 0 tt (subst (λ (x : AtomRead). OneOf (1 ∷ []) (tag_of read-type.the_type x)) found.is left)
+    pub atom_not_refused : ((a : AtomRead) → r ≡ Ok a → ⊥) → ⊥
+    atom_not_refused none = none _ found.is
 
-    module _ (atom : Tested) (end : ℕ) (is : r ≡ Found atom end) where
-      same_atom : atom_of task.atom ≡ atom
-      same_atom = ap (atom_in atom) (sym found.is ∙ is)
+    module _ (read : AtomRead) (is : r ≡ Ok read) where
+      same_read : record { atom = atom_of task.atom; at = found.end } ≡ read
+      same_read = let both = sym found.is ∙ is in cc
 
-      same_end : found.end ≡ end
-      same_end = ap end_in (sym found.is ∙ is)
+      same_atom : atom_of task.atom ≡ read.atom
+      same_atom = ap (λ (a : AtomRead). a.atom) same_read
 
-      atom_rows_lem : atom_rows h.alphabet sign task.atom p to ≡ rows_of atom sign h.alphabet place.state to
+      same_end : found.end ≡ read.at
+      same_end = ap (λ (a : AtomRead). a.at) same_read
+
+      atom_rows_lem : atom_rows h.alphabet sign task.atom p to ≡ rows_of read.atom sign h.alphabet place.state to
       atom_rows_lem =
           rows_are_lem h.alphabet sign task.atom p to
           ∙ ap (λ (a : Tested). rows_of a sign h.alphabet p to) same_atom
-          ∙ ap (λ (n : ℕ). rows_of atom sign h.alphabet n to) (sym d.stands.state)
+          ∙ ap (λ (n : ℕ). rows_of read.atom sign h.alphabet n to) (sym d.stands.state)
 
-      pub atom_room : Room out place.row (λ alphabet. rows_of atom sign alphabet place.state to)
+      pub atom_room : Room out place.row (λ alphabet. rows_of read.atom sign alphabet place.state to)
       atom_room =
-          at_room d.stands (λ alphabet. rows_of atom sign alphabet place.state to)
+          at_room d.stands (λ alphabet. rows_of read.atom sign alphabet place.state to)
           (subst (λ (zs : List Row). length rows + length zs ≤ h.count) (ap (λ (x : Part). x.rows) task.is ∙ atom_rows_lem) d.fits)
 
-      pub atom_onward : place.at ≤ end
+      pub atom_onward : place.at ≤ read.at
       atom_onward = omega (arith, found.onward, same_end)
 
       pub atom_emits : {after : List ℕ} {row : ℕ}
-          → Writes out after place.row row (λ alphabet. rows_of atom sign alphabet place.state to)
-          → Emitted text after (record { at = end; state = place.state; next = place.next; row = row }) h accepting rows us part
+          → Writes out after place.row row (λ alphabet. rows_of read.atom sign alphabet place.state to)
+          → Emitted text after (record { at = read.at; state = place.state; next = place.next; row = row }) h accepting rows us part
       atom_emits w =
           emitted_as task.is
           (rows_emitted (subst (λ (n : ℕ). Here text n us) same_end found.here)
-          (at_rows d.stands (λ alphabet. rows_of atom sign alphabet place.state to) _ (sym atom_rows_lem) (subst (λ (x : Part). length rows + length x.rows ≤ h.count) task.is d.fits) w)
+          (at_rows d.stands (λ alphabet. rows_of read.atom sign alphabet place.state to) _ (sym atom_rows_lem) (subst (λ (x : Part). length rows + length x.rows ≤ h.count) task.is d.fits) w)
           d.stands.state
           d.stands.takes
           d.stands.taken)
@@ -300,9 +291,9 @@ atom_only : {text : List ℕ} {from : ℕ} {to : ℕ} {sign : Bool} {alphabet : 
 unfolding walk ConditionWithin
 atom_only (walks (atom a) closes within below) here none closed = an_atom a within below
 atom_only (walks (parens d) closes within below) here none closed =
-    absurd (closed.other (seen_sign Sign.OpenParen (closed.sees.stands _ here) refl))
+    absurd (closed.other here refl)
 atom_only (walks (negation d) closes within below) here none closed =
-    absurd (none.other (seen_sign Sign.Not (none.sees.stands _ here) refl))
+    absurd (none.other here refl)
 
 -- the call of an operand, by the sign that is seen
 module _ {text out : List ℕ} {place : Place} {to : ℕ} {sign : Bool} {t : Seen} (sees : Sees text place.at t)

@@ -3,7 +3,7 @@
 ghost use Rattle.std.specs.Prelude.{◌≡◌, ◌+◌, ◌^◌, ◌<◌};
 ghost use Rattle.compiler.specs.Inside.Operators.{mark_of, look_at, is_or, Ahead};
 
-use super::see::Cursor;
+use super::see::{Cursor, end_of};
 use std::ops::ControlFlow;
 use text::{Sign, Token};
 use tokeniser::token_at;
@@ -38,18 +38,19 @@ impl Cursor<'_> {
         let mut at = self.at;
         let mut depth = 0;
         loop {
-            match token_at(self.text, at) {
-                Token::Sign { sign, end, .. } => match look(sign, depth, operator) {
+            let token = token_at(self.text, at);
+            if let Token::Sign { sign, end, .. } = token {
+                match look(sign, depth, operator) {
                     ControlFlow::Break(found) => return found,
                     ControlFlow::Continue(more) => {
                         depth = more;
                         at = end;
                     }
-                },
-                Token::Word { end, .. } | Token::Number { end, .. } | Token::Letter { end, .. } => {
-                    at = end;
                 }
-                Token::End { .. } | Token::Broken { .. } => return false,
+            } else if let Some(end) = end_of(token) {
+                at = end;
+            } else {
+                return false;
             }
         }
     }

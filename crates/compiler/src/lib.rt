@@ -14,7 +14,7 @@ mod write;
 ghost use Rattle.construction.specs.Compile.{Compiles};
 
 use construction::Sizes;
-use reader::Reading;
+use reader::Counts;
 use see::Cursor;
 use table::reason::{Reason, Refusal};
 
@@ -45,12 +45,11 @@ pub fn compile(text: &[u8], image: &mut [u8]) -> Result<Sizes, Refusal>
             place: 0,
         });
     }
-    match reader::read(text) {
-        Reading::Refused { number: _, place } => Err(Refusal { reason: Reason::NoToken, place }),
-        Reading::Taken { states, rows } => Ok(Sizes {
-            bytes: emit::emit(text, image, states, rows),
-            states,
-            rows,
-        }),
-    }
+    let Counts { states, rows } = reader::read(text)?;
+    let bytes = emit::emit(text, image, states, rows);
+    Ok(Sizes {
+        bytes,
+        states,
+        rows,
+    })
 }

@@ -14,7 +14,7 @@ pub struct Cursor<'a> {
 }
 
 // Where a token ends; None where none stands.
-fn end_of(token: Token) -> Option<usize>
+pub fn end_of(token: Token) -> Option<usize>
     ensures { result ≡ end_of token }
 {
     match token {
@@ -52,26 +52,28 @@ impl Cursor<'_> {
     pub fn eat_word(&mut self, wanted: Word) -> bool
         ensures { EatsWord self.old self.new wanted result }
     {
-        match token_at(self.text, self.at) {
-            Token::Word { word, end, .. } if word == wanted => {
-                self.at = end;
-                true
-            }
-            _ => false,
+        let Token::Word { word, end, .. } = token_at(self.text, self.at) else {
+            return false;
+        };
+        if word != wanted {
+            return false;
         }
+        self.at = end;
+        true
     }
 
     // Past this sign, if it comes next; whether it does.
     pub fn eat_sign(&mut self, wanted: Sign) -> bool
         ensures { EatsSign self.old self.new wanted result }
     {
-        match token_at(self.text, self.at) {
-            Token::Sign { sign, end, .. } if sign == wanted => {
-                self.at = end;
-                true
-            }
-            _ => false,
+        let Token::Sign { sign, end, .. } = token_at(self.text, self.at) else {
+            return false;
+        };
+        if sign != wanted {
+            return false;
         }
+        self.at = end;
+        true
     }
 
     // Past a word; which it is.

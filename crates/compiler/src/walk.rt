@@ -9,19 +9,19 @@ ghost use Rattle.rule.specs.Grammar.{tightest};
 
 use super::ahead::Operator;
 use super::{Emitter, write};
-use atoms::AtomRead;
+use atoms::{Atom, AtomRead, Symbol};
 use table::form;
 use text::Sign;
 
 // The code of what `read` is compared with.
-fn code_of(out: &[u8], symbol: atoms::Symbol) -> u8
+fn code_of(out: &[u8], symbol: Symbol) -> u8
     requires { Held out.now }
     ensures { Codes out.now symbol result }
 {
     match symbol {
-        atoms::Symbol::Letter { byte, place: _ } => write::letter(out, byte),
-        atoms::Symbol::Lend => form::LEFT_MARK,
-        atoms::Symbol::Rend => form::RIGHT_MARK,
+        Symbol::Letter { byte, place: _ } => write::letter(out, byte),
+        Symbol::Lend => form::LEFT_MARK,
+        Symbol::Rend => form::RIGHT_MARK,
     }
 }
 
@@ -96,18 +96,16 @@ fn walked_as_is(equal: bool, sign: bool) -> bool
 }
 
 // The rows of an atom with its sign.
-fn rows(out: &mut [u8], at: usize, from: usize, to: usize, tests: atoms::Atom, sign: bool) -> usize
-    requires { Room out.old at (λ alphabet. rows_of tests sign alphabet from to) × (from ≤ 128) × (to ≤ 128) }
-    ensures { Writes out.old out.new at result (λ alphabet. rows_of tests sign alphabet from to) }
+fn rows(out: &mut [u8], at: usize, from: usize, to: usize, atom: Atom, sign: bool) -> usize
+    requires { Room out.old at (λ alphabet. rows_of atom sign alphabet from to) × (from ≤ 128) × (to ≤ 128) }
+    ensures { Writes out.old out.new at result (λ alphabet. rows_of atom sign alphabet from to) }
 {
-    match tests {
-        atoms::Atom::Read { equal, symbol } => {
+    match atom {
+        Atom::Read { equal, symbol } => {
             let code = code_of(out, symbol);
             read_rows(out, at, from, to, code, walked_as_is(equal, sign))
         }
-        atoms::Atom::Counter { zero } => {
-            counter_row(out, at, from, to, walked_as_is(zero, sign))
-        }
+        Atom::Counter { zero } => { counter_row(out, at, from, to, walked_as_is(zero, sign)) }
     }
 }
 
@@ -155,11 +153,10 @@ impl Emitter<'_> {
         requires { Ready (AtomTask to sign) self.old }
         ensures { Emits (AtomTask to sign) self.old self.new }
     {
-        let read = atoms::atom_at(self.cursor.text, self.cursor.at);
-        let AtomRead::Found { atom: tests, at } = read else {
+        let Ok(AtomRead { atom, at }) = atoms::atom_at(self.cursor.text, self.cursor.at) else {
             unreachable!()
         };
-        self.row = rows(self.out, self.row, self.state, to, tests, sign);
+        self.row = rows(self.out, self.row, self.state, to, atom, sign);
         self.cursor.at = at;
     }
 

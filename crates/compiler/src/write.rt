@@ -39,7 +39,11 @@ pub fn header(out: &mut [u8], count: usize, decr_on_zero: bool, states: usize, r
     let at = count + form::DECR_ON_ZERO_TAG;
     let [high, low] = two_bytes(states);
     let flag = u8::from(decr_on_zero);
-    put(out, at, &[3, 0, 1, flag, 4, 0, 2, high, low, 5, 0, ACCEPTING]);
+    put(
+        out,
+        at,
+        &[3, 0, 1, flag, 4, 0, 2, high, low, 5, 0, ACCEPTING],
+    );
     let accepting = count + form::ACCEPTING_PLACE;
     put(out, accepting, &[0; form::ACCEPTING_BYTES]);
     let [high, low] = two_bytes(form::ROW_BYTES * rows);
@@ -54,14 +58,7 @@ pub fn row(out: &mut [u8], at: usize, row: Row) -> usize
     let [from_high, from_low] = two_bytes(row.from);
     let [to_high, to_low] = two_bytes(row.to);
     let bytes = [
-        from_high,
-        from_low,
-        row.symbol,
-        row.test,
-        row.motion,
-        row.change,
-        to_high,
-        to_low,
+        from_high, from_low, row.symbol, row.test, row.motion, row.change, to_high, to_low,
     ];
     put(out, at, &bytes);
     at + form::ROW_BYTES

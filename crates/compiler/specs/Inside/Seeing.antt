@@ -1,5 +1,5 @@
 -- What the emitter sees of a text's tokens. No caller relies on any of it.
-use Rattle.std.specs.Prelude.{ℕ, zero, ◌+◌, ◌≤◌, ◌<◌, ◌≡◌, Bool, true, false, List, [], ◌∷◌, length, drop, T, Option, Some, None}
+use Rattle.std.specs.Prelude.{ℕ, ◌+◌, ◌≤◌, ◌<◌, ◌≡◌, Bool, true, false, List, [], ◌∷◌, length, drop, T, Option, Some, None}
 use Rattle.bits.specs.Byte.{is_digit, is_letter}
 use Rattle.text.specs.Token.{word, number, letter, sign, every}
 use Rattle.text.specs.Tokens.{Placed, ◌at◌, Ending, Tokens}
@@ -91,16 +91,12 @@ pub record SeesSign (text : List ℕ) (from end : ℕ) (x : Sign) : Type 0 where
   pub start : ℕ
   pub sees : Sees text from (record { word = word; sign = x; byte = byte; start = start; end = end })
 
--- what is seen is another word, or another sign
+-- no such word comes next, or no such sign
 pub record NotWord (text : List ℕ) (from : ℕ) (x : Word) : Type 0 where
-  pub seen : Seen
-  pub sees : Sees text from seen
-  pub other : ¬ (seen.word ≡ x)
+  pub other : {l : List ℕ} {p : ℕ} {us : List Placed} → Here text from ((word l at p) ∷ us) → ¬ IsWord x l
 
 pub record NotSign (text : List ℕ) (from : ℕ) (x : Sign) : Type 0 where
-  pub seen : Seen
-  pub sees : Sees text from seen
-  pub other : ¬ (seen.sign ≡ x)
+  pub other : {l : List ℕ} {p : ℕ} {us : List Placed} → Here text from ((sign l at p) ∷ us) → ¬ (l ≡ written x)
 
 -- past a word or a sign, if it is the one that is wanted
 pub record EatsWord (k r : Cursor) (x : Word) (found : Bool) : Type 0 where

@@ -42,7 +42,6 @@ pub record Listing (text before after : List ℕ) (end : ℕ) (us : Ts) (l : Lis
 pub record Lists (k r : Cursor) (before after : List ℕ) (many : ℕ) : Type 0 where
   pub lists : {ts us : Ts} {l : List Letter} → LettersAt k.text.now k.at before ts us l → Listing k.text.now before after r.at us l many
   pub text : r.text.now ≡ k.text.now
-  pub long : length after ≡ length before
 
 -- what `decr_on_zero` is, behind its `=`, and a `;`
 pub data TruthAt : Ts → Bool → Ts → Type 0 where
