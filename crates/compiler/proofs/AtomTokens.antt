@@ -32,6 +32,8 @@ use Rattle.atoms.specs.Atom.{
   lend,
   rend,
   a_number,
+  Read,
+  found,
   zero_found,
   zero_read,
   ObjectSays,
@@ -43,13 +45,11 @@ use Rattle.atoms.specs.Atom.{
 use Rattle.reader.specs.Inside.Atoms.{symbol_of, atom_of}
 use Rattle.atoms.specs.declared.Symbol.TheVariants as Symbol
 use Rattle.atoms.specs.declared.Atom.{Atom}
-use Rattle.atoms.specs.declared.AtomRead.{AtomRead}
-use Rattle.atoms.specs.declared.AtomRead.TheVariants.{Found}
 use Rattle.construction.specs.Construction.{symbol_code, atom_rows}
 use Rattle.compiler.specs.Inside.Seeing.{Here, Behind}
 use Rattle.compiler.specs.Inside.Atoms.{read_rows, code_of, rows_of}
 use Rattle.compiler.proofs.Tags.{word_tag, sign_tag}
-use Rattle.compiler.proofs.Seeing.{word_in, sign_in, end_of, first_seen, seen_behind, seen_word, seen_sign, no_other, no_semicolon}
+use Rattle.compiler.proofs.Seeing.{word_in, sign_in, end_from, first_seen, seen_behind, seen_word, seen_sign, no_other, no_semicolon}
 
 -- the first of some tokens: its sort, its place, its byte
 abbrev sort_at : List Placed → ℕ
@@ -118,14 +118,14 @@ module _ (text : List ℕ) (us : Ts) (e : Ending) where
 
 -- what is said by a token that is known, and that the text goes on behind it
 pub record Told (text : List ℕ) (from : ℕ) (us : Ts) (Says : Token → Type 0) (k : Token) : Type 0 where
-  pub behind : Behind text from (end_of from k) us
+  pub behind : Behind text from (end_from from k) us
   pub says : Says k
 
 module _ {text : List ℕ} {from : ℕ} {us : Ts} {x : Placed} {Says : Token → Type 0} (n : Next text from Says) (h : Here text from (x ∷ us)) where
   told : (k : Token) → n.token ≡ k → Told text from us Says k
   told k e =
       record {
-        behind = subst (λ (t : Token). Behind text from (end_of from t) us) e (seen_behind (first_seen n.token n.first refl (x ∷ us) h));
+        behind = subst (λ (t : Token). Behind text from (end_from from t) us) e (seen_behind (first_seen n.token n.first refl (x ∷ us) h));
         says = subst Says e n.says;
       }
 
@@ -159,53 +159,53 @@ module _ {text : List ℕ} {from p : ℕ} {us : Ts} {Says : Token → Type 0} (n
       (q, is, told n h (Token.Number p q) e)
 
 -- what each token of an atom says
-read_says : {text : List ℕ} {p q : ℕ} {r : AtomRead} → Case IsTested (TestedSays text) (Token.Word p q Word.Read) r → Next text q (λ t. ComparedSays text ObjectSays t r)
+read_says : {text : List ℕ} {p q : ℕ} {r : Read} → Case IsTested (TestedSays text) (Token.Word p q Word.Read) r → Next text q (λ t. ComparedSays text ObjectSays t r)
 read_says (stands by_read x) = x
 read_says (other h) = absurd (h _ by_read)
 
-c_says : {text : List ℕ} {p q : ℕ} {r : AtomRead} → Case IsTested (TestedSays text) (Token.Word p q Word.C) r → Next text q (λ t. ComparedSays text (NumeralSays text) t r)
+c_says : {text : List ℕ} {p q : ℕ} {r : Read} → Case IsTested (TestedSays text) (Token.Word p q Word.C) r → Next text q (λ t. ComparedSays text (NumeralSays text) t r)
 c_says (stands by_c x) = x
 c_says (other h) = absurd (h _ by_c)
 
-same_says : {text : List ℕ} (third : Bool → Token → AtomRead → Type 0) {p q : ℕ} {r : AtomRead} → ComparedSays text third (Token.Sign p q Sign.Equals) r → Next text q (λ t. third true t r)
+same_says : {text : List ℕ} (third : Bool → Token → Read → Type 0) {p q : ℕ} {r : Read} → ComparedSays text third (Token.Sign p q Sign.Equals) r → Next text q (λ t. third true t r)
 same_says third (stands same x) = x
 same_says third (other h) = absurd (h _ same)
 
-differs_says : {text : List ℕ} (third : Bool → Token → AtomRead → Type 0) {p q : ℕ} {r : AtomRead} → ComparedSays text third (Token.Sign p q Sign.Differs) r → Next text q (λ t. third false t r)
+differs_says : {text : List ℕ} (third : Bool → Token → Read → Type 0) {p q : ℕ} {r : Read} → ComparedSays text third (Token.Sign p q Sign.Differs) r → Next text q (λ t. third false t r)
 differs_says third (stands differs x) = x
 differs_says third (other h) = absurd (h _ differs)
 
-letter_says : {equal : Bool} {p q b : ℕ} {r : AtomRead} → ObjectSays equal (Token.Letter p q b) r → r ≡ Found (Atom.Read equal (Symbol.Letter b p)) q
+letter_says : {equal : Bool} {p q b : ℕ} {r : Read} → ObjectSays equal (Token.Letter p q b) r → r ≡ found (Atom.Read equal (Symbol.Letter b p)) q
 letter_says (stands a_letter x) = x
 letter_says (other h) = absurd (h _ a_letter)
 
-lend_says : {equal : Bool} {p q : ℕ} {r : AtomRead} → ObjectSays equal (Token.Word p q Word.Lend) r → r ≡ Found (Atom.Read equal Symbol.Lend) q
+lend_says : {equal : Bool} {p q : ℕ} {r : Read} → ObjectSays equal (Token.Word p q Word.Lend) r → r ≡ found (Atom.Read equal Symbol.Lend) q
 lend_says (stands lend x) = x
 lend_says (other h) = absurd (h _ lend)
 
-rend_says : {equal : Bool} {p q : ℕ} {r : AtomRead} → ObjectSays equal (Token.Word p q Word.Rend) r → r ≡ Found (Atom.Read equal Symbol.Rend) q
+rend_says : {equal : Bool} {p q : ℕ} {r : Read} → ObjectSays equal (Token.Word p q Word.Rend) r → r ≡ found (Atom.Read equal Symbol.Rend) q
 rend_says (stands rend x) = x
 rend_says (other h) = absurd (h _ rend)
 
-number_says : (text : List ℕ) (equal : Bool) {p q : ℕ} {r : AtomRead} → NumeralSays text equal (Token.Number p q) r → r ≡ zero_read equal (part text p q) (record { place = p; end = q })
+number_says : (text : List ℕ) (equal : Bool) {p q : ℕ} {r : Read} → NumeralSays text equal (Token.Number p q) r → r ≡ zero_read equal (part text p q) (record { place = p; end = q })
 number_says text equal (stands a_number x) = x
 number_says text equal (other h) = absurd (h _ a_number)
 
 -- an atom is found, and the text goes on behind it
-pub record FoundAt (text : List ℕ) (from : ℕ) (us : Ts) (a : Atom) (r : AtomRead) : Type 0 where
+pub record FoundAt (text : List ℕ) (from : ℕ) (us : Ts) (a : Atom) (r : Read) : Type 0 where
   pub end : ℕ
-  pub is : r ≡ Found a end
+  pub is : r ≡ found a end
   pub onward : from < end
   pub here : Here text end us
 
-further : {text : List ℕ} {from q o : ℕ} {ts vs us : Ts} {a : Atom} {r : AtomRead}
+further : {text : List ℕ} {from q o : ℕ} {ts vs us : Ts} {a : Atom} {r : Read}
     → Behind text from q ts
     → Behind text q o vs
     → FoundAt text o us a r
     → FoundAt text from us a r
 further b c f = record { end = f.end; is = f.is; onward = omega (arith, b.onward, c.onward, f.onward); here = f.here }
 
-object_found : {text : List ℕ} {from : ℕ} {ts us : Ts} {x : SymbolName} {r : AtomRead} (equal : Bool)
+object_found : {text : List ℕ} {from : ℕ} {ts us : Ts} {x : SymbolName} {r : Read} (equal : Bool)
     → Next text from (λ t. ObjectSays equal t r)
     → Here text from ts
     → IsSymbolName ts x us
@@ -223,13 +223,13 @@ object_found equal n h Grammar.rend =
 zero_is_read : (equal : Bool) (digits : List ℕ) (p q : ℕ)
     → value_from 0 digits ≡ 0
     → in_form digits ≡ true
-    → zero_read equal digits (record { place = p; end = q }) ≡ Found (Atom.Counter equal) q
+    → zero_read equal digits (record { place = p; end = q }) ≡ found (Atom.Counter equal) q
 zero_is_read equal digits p q zero form =
     ap
     (zero_found equal (record { place = p; end = q }))
     (ap (λ (b : Bool). b && leb (value_from 0 digits) 0) form ∙ ap (λ (n : ℕ). leb n 0) zero)
 
-number_found : {text : List ℕ} {from p : ℕ} {l : List ℕ} {us : Ts} {r : AtomRead} (equal : Bool)
+number_found : {text : List ℕ} {from p : ℕ} {l : List ℕ} {us : Ts} {r : Read} (equal : Bool)
     → Next text from (λ t. NumeralSays text equal t r)
     → Here text from ((number l at p) ∷ us)
     → (value_from 0 l ≡ 0) × (in_form l ≡ true)
@@ -246,7 +246,7 @@ number_found {text} {p = p} equal n h zero =
     }
 
 -- where an atom stands that is within the limits, it is found
-pub atom_found : (alphabet : List ℕ) {text : List ℕ} {from k : ℕ} {ts us : Ts} {a : Tree.Atom} {r : AtomRead}
+pub atom_found : (alphabet : List ℕ) {text : List ℕ} {from k : ℕ} {ts us : Ts} {a : Tree.Atom} {r : Read}
     → AtomAt text from r
     → Here text from ts
     → IsAtom ts k a us

@@ -1,14 +1,12 @@
 -- A branch and its arms: what each call has to emit, and what is emitted behind it.
 use Prim.Native.Nat.{ℕ, ◌+◌, ◌≤◌, ◌<◌}
 use native.Mathlib.Omega.{arith}
-use mathlib.Core.Path.{◌≡◌, refl, sym, ap, subst}
+use mathlib.Core.Path.{◌≡◌, refl, sym, subst}
 use mathlib.Core.List.{List, [], ◌∷◌, ◌++◌}
 use lib.ListN.{length}
-use types.Run.{OneOf}
 use Rattle.text.specs.Token.{w}
 use Rattle.text.specs.Tokens.{◌at◌}
 use Rattle.text.specs.declared.Word.{Word}
-use Rattle.text.specs.declared.Sign.{Sign}
 use Rattle.table.specs.Table.{Row}
 use Rattle.rule.specs.Tree.{Statement, Arms}
 use Rattle.rule.specs.Grammar as Grammar
@@ -17,13 +15,10 @@ use Rattle.rule.proofs.Invert.{Branch, arms, statement_branch, Arm, lone, and_mo
 use Rattle.rule.specs.Inside.Within.{StatementWithin, ArmsWithin}
 use Rattle.construction.specs.Construction.{free, Part, arm_part, and_then, statement_part, statements_part, arms_part}
 use Rattle.compiler.specs.Inside.Writing.{Sheet, Room, Writes}
-use Rattle.compiler.specs.Inside.Seeing.{SeenAs, Sees}
+use Rattle.compiler.specs.Inside.Seeing.{Here, SeesWord, NotWord}
 use Rattle.compiler.specs.Inside.Emission.{Doing, Emitted, rows_part, Follows, HeadedTask, closed_part, BodyTask, a_body, ArmsTask, the_arms}
-use Rattle.compiler.specs.declared.Place.{Place}
-use Rattle.compiler.specs.declared.see.Seen.{Seen}
+use Rattle.compiler.specs.Inside.Place.{Place}
 use Rattle.construction.proofs.Counts.{statements_next, arms_next}
-use Rattle.compiler.proofs.Tags.{word_tag, word_tags, none_of}
-use Rattle.compiler.proofs.Seeing.{seen_word}
 use Rattle.compiler.proofs.Emission.{at_moved, fits_first, fits_then, emitted_as}
 use Rattle.compiler.proofs.Stepping.{headed_of}
 use Rattle.compiler.proofs.Nesting.{settled, at_anew, free_room, free_emitted, emitted_then, HeadAt, head_at}
@@ -108,14 +103,13 @@ record NoAlso (first : Part) (ts us : Ts) (part : Part) : Type 0 where
   pub same : ts ≡ us
   pub is : part ≡ first
 
-no_also_lem : {text : List ℕ} {from k e b : ℕ} {x : Word} {g : Sign} {to : ℕ} {alphabet : List ℕ} {p : ℕ} {first : Part} {ts us : Ts} {part : Part}
+no_also_lem : {text : List ℕ} {from to : ℕ} {alphabet : List ℕ} {p : ℕ} {first : Part} {ts us : Ts} {part : Part}
     → ArmsEnd to alphabet p first ts us part
-    → SeenAs text from ts x g b k e
-    → OneOf (word_tags (18 ∷ [])) (word_tag x)
+    → Here text from ts
+    → NotWord text from Word.Also
     → NoAlso first ts us part
-no_also_lem (last follows) seen other = record { same = refl; is = refl }
-no_also_lem {x = x} (more t grows) seen other =
-    absurd (none_of (word_tags (18 ∷ [])) (word_tag x) 18 tt other (ap word_tag (seen_word Word.Also seen refl)))
+no_also_lem (last follows) here other = record { same = refl; is = refl }
+no_also_lem (more t grows) here other = absurd (other.other here refl)
 
 -- and else there are more
 pub record MoreArms (to : ℕ) (alphabet : List ℕ) (p : ℕ) (first : Part) (ts us : Ts) (part : Part) : Type 0 where
@@ -167,39 +161,38 @@ module _ {text out : List ℕ} {place : Place} {to : ℕ} {h : Sheet} {accepting
           fits = fits_then rows (free place.state place.next ∷ []) arms_here.arm.rows arms_fits;
         }
 
-  module _ {middle : List ℕ} {arm : Place} (e : Emitted text middle arm h (accepting ++ []) (rows ++ (free place.state place.next ∷ [])) arms_here.behind arms_here.arm)
-      {t : Seen} (sees : Sees text arm.at t) where
+  module _ {middle : List ℕ} {arm : Place} (e : Emitted text middle arm h (accepting ++ []) (rows ++ (free place.state place.next ∷ [])) arms_here.behind arms_here.arm) where
     first_emitted : Emitted text middle arm h accepting rows arms_here.behind first_arm_lem
     first_emitted = emitted_then (arm_row place.state place.next) arms_here.arm e
 
-    pub arms_last : OneOf (word_tags (18 ∷ [])) (word_tag t.word) → Emitted text middle arm h accepting rows us part
+    pub arms_last : NotWord text arm.at Word.Also → Emitted text middle arm h accepting rows us part
     arms_last other =
-        let n = no_also_lem arms_here.end (sees.stands arms_here.behind e.stands.here) other in
+        let n = no_also_lem arms_here.end e.stands.here other in
         emitted_as n.is (subst (λ (xs : Ts). Emitted text middle arm h accepting rows xs first_arm_lem) n.same first_emitted)
 
-    module _ (is : t.word ≡ Word.Also) where
-      abbrev also_here : HeadAt text arm.at t.end (w "also") arms_here.behind
-      also_here = head_at Word.Also _ (λ bytes which. which) tt (sees.stands arms_here.behind e.stands.here) is
+    module _ {end : ℕ} (sees : SeesWord text arm.at end Word.Also) where
+      abbrev also_here : HeadAt text arm.at end (w "also") arms_here.behind
+      also_here = head_at Word.Also _ (λ bytes which. which) tt (sees.sees.stands arms_here.behind e.stands.here) refl
 
       abbrev more_here : MoreArms to h.alphabet place.state first_arm_lem also_here.rest us part
       more_here = more_arms_lem (subst (λ (xs : Ts). ArmsEnd to h.alphabet place.state first_arm_lem xs us part) also_here.is arms_here.end)
 
-      pub also-onward : (arm.at < t.end) × (t.end ≤ length text)
+      pub also-onward : (arm.at < end) × (end ≤ length text)
       also-onward = (also_here.behind.onward, also_here.behind.within)
 
-      pub more_doing : Doing (ArmsTask to) text middle (record { at = t.end; state = place.state; next = arm.next; row = arm.row }) h (accepting ++ first_arm_lem.accepting) (rows ++ first_arm_lem.rows) place.state first_arm_lem.next also_here.rest us more_here.later
+      pub more_doing : Doing (ArmsTask to) text middle (record { at = end; state = place.state; next = arm.next; row = arm.row }) h (accepting ++ first_arm_lem.accepting) (rows ++ first_arm_lem.rows) place.state first_arm_lem.next also_here.rest us more_here.later
       unfolding and_then
       more_doing =
           record {
-            stands = at_moved t.end (at_anew first_emitted.stands refl e.stands.takes (omega (arith, d.stands.taken, arms_here.grows))) also_here.behind.here;
+            stands = at_moved end (at_anew first_emitted.stands refl e.stands.takes (omega (arith, d.stands.taken, arms_here.grows))) also_here.behind.here;
             is = more_here.arms;
             states = subst (λ (x : Part). x.next ≤ 128) more_here.is d.states;
             fits = fits_then rows first_arm_lem.rows more_here.later.rows (subst (λ (x : Part). length rows + length x.rows ≤ h.count) more_here.is d.fits);
           }
 
-      pub more_emitted : {after : List ℕ} {end : Place}
-          → Emitted text after end h (accepting ++ first_arm_lem.accepting) (rows ++ first_arm_lem.rows) us more_here.later
-          → Emitted text after end h accepting rows us part
+      pub more_emitted : {after : List ℕ} {last : Place}
+          → Emitted text after last h (accepting ++ first_arm_lem.accepting) (rows ++ first_arm_lem.rows) us more_here.later
+          → Emitted text after last h accepting rows us part
       more_emitted f = emitted_as more_here.is (emitted_then first_arm_lem more_here.later f)
 
 -- a branch is its arms, with a state to leave by

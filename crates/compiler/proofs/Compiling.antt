@@ -10,11 +10,13 @@ use Rattle.rule.specs.Tree.{Program}
 use Rattle.rule.specs.Counts.{program_states, program_rows}
 use Rattle.rule.specs.Faults.{FirstFault, Reads, TooMany}
 use Rattle.reader.specs.Reading.{reasons as reading_reasons, Whole, ReadsTo}
-use Rattle.reader.specs.declared.Reading.TheVariants as Reading
+use Rattle.reader.specs.declared.answers.Counts.{Counts}
 use Rattle.construction.specs.Construction.{construct}
 use Rattle.construction.specs.Compile.{image_room, reasons, Compiles}
 use Rattle.compiler.specs.Inside.Setting.{Fits, Emittable, Images}
-use Rattle.construction.specs.declared.Answer.{Answer}
+use Rattle.table.specs.declared.reason.Reason.TheVariants as Named
+use Rattle.table.specs.declared.reason.Refusal.{Refusal}
+use Rattle.std.specs.Prelude.{Ok, Err}
 use Rattle.construction.proofs.Counts.{states_formula, rows_formula}
 use Rattle.construction.proofs.Agree.{agree}
 
@@ -54,7 +56,7 @@ module _ (text : List ℕ) where
   by_table n p (inr (none, inr (few, inr nothing))) = absurd nothing.1
 
 module _ (text before : List ℕ) where
-  pub too_long : 4096 < length text → Compiles text before before (Answer.Refused 1 0)
+  pub too_long : 4096 < length text → Compiles text before before (Err (record { reason = Named.LongText; place = 0 }))
   unfolding First
   too_long long = record { right = record { first = inl (refl, (refl, long)); unchanged = refl } }
 
@@ -62,7 +64,7 @@ module _ (text before : List ℕ) where
     not_long : (n p : ℕ) → (n ≡ 1) × ((p ≡ 0) × (4096 < length text)) → ⊥
     not_long n p h = omega (arith, h.1.1)
 
-    pub too_short : length before < image_room → Compiles text before before (Answer.Refused 2 0)
+    pub too_short : length before < image_room → Compiles text before before (Err (record { reason = Named.ShortImage; place = 0 }))
     unfolding First
     too_short little = record { right = record { first = inr (not_long, inl (refl, (refl, little))); unchanged = refl } }
 
@@ -76,15 +78,15 @@ module _ (text before : List ℕ) where
       refused_first n p (inl h) = absurd (not_long n p h)
       refused_first n p (inr (long, h)) = inr (not_long, inr (not_short, by_table text n p h))
 
-      pub refused_as_read : {n p : ℕ} → ReadsTo text (Reading.Refused n p) → Compiles text before before (Answer.Refused n p)
+      pub refused_as_read : {r : Refusal} → ReadsTo text (Err r) → Compiles text before before (Err r)
       refused_as_read reads = record { right = record { first = refused_first _ _ reads.right; unchanged = refl } }
 
       -- what it takes can be emitted
-      module _ {states rows : ℕ} (reads : ReadsTo text (Reading.Taken states rows)) where
-        whole : Whole text states rows
+      module _ {counts : Counts} (reads : ReadsTo text (Ok counts)) where
+        whole : Whole text counts.states counts.rows
         whole = reads.right
 
-        fits : Fits text before states rows whole.program
+        fits : Fits text before counts.states counts.rows whole.program
         fits =
             record {
               reads = whole.reads;
@@ -95,11 +97,11 @@ module _ (text before : List ℕ) where
               room = room;
             }
 
-        pub emittable_as_read : Emittable text before states rows
+        pub emittable_as_read : Emittable text before counts.states counts.rows
         emittable_as_read = record { program = whole.program; fits = fits }
 
         -- and is compiled
-        pub compiled_as_read : {after : List ℕ} {bytes : ℕ} → Images text before after states rows bytes → Compiles text before after (Answer.Compiled bytes states rows)
+        pub compiled_as_read : {after : List ℕ} {bytes : ℕ} → Images text before after counts.states counts.rows bytes → Compiles text before after (Ok (record { bytes = bytes; states = counts.states; rows = counts.rows }))
         compiled_as_read images =
             let image = images.images fits in
             let few : (construct whole.program).states ≤ 128 = omega (arith, fits.states_are, fits.few_states) in

@@ -10,15 +10,58 @@ use Rattle.rule.specs.Grammar.{Ts}
 use Rattle.construction.specs.Construction.{Part}
 use Rattle.compiler.specs.Inside.Writing.{Sheet, Held, Filled, Room, Writes}
 use Rattle.compiler.specs.Inside.Seeing.{Here, Reaches, GoesPast}
-use Rattle.compiler.specs.Inside.Emission.{At, Task, Doing, Ready, Emitted, rows_part}
-use Rattle.compiler.specs.declared.Place.{Place}
+use Rattle.compiler.specs.Inside.Place.{Place, place_of}
+use Rattle.compiler.specs.Inside.Emission.{At, Task, Doing, Ready, Emitted, Emits, rows_part}
+use Rattle.compiler.specs.declared.Emitter.{Emitter}
+use Rattle.compiler.specs.declared.see.Cursor.{Cursor}
+use Rattle.std.specs.Borrow.{MutBor}
 
--- a task that can be done
-pub ready : {task : Task} {text out : List ℕ} {place : Place} {h : Sheet} {accepting : List ℕ} {rows : List Row} {p next : ℕ} {ts us : Ts} {part : Part}
-    → Doing task text out place h accepting rows p next ts us part
-    → Ready task text out place
+-- a task that can be done, in the text that the emitter goes over
+pub ready_in : {task : Task} {e : Emitter} {text : List ℕ} {h : Sheet} {accepting : List ℕ} {rows : List Row} {p next : ℕ} {ts us : Ts} {part : Part}
+    → e.cursor.text.now ≡ text
+    → Doing task text e.out.now (place_of e) h accepting rows p next ts us part
+    → Ready task e
+ready_in {task} {e} {h = h} {accepting = accepting} {rows = rows} {p = p} {next = next} {ts = ts} {us = us} {part = part} same d =
+    record {
+      sheet = _;
+      accepting = _;
+      rows = _;
+      from = _;
+      next = _;
+      ts = _;
+      us = _;
+      part = _;
+      doing = subst (λ (t : List ℕ). Doing task t e.out.now (place_of e) h accepting rows p next ts us part) (sym same) d;
+    }
+
+pub ready : {task : Task} {e : Emitter} {h : Sheet} {accepting : List ℕ} {rows : List Row} {p next : ℕ} {ts us : Ts} {part : Part}
+    → Doing task e.cursor.text.now e.out.now (place_of e) h accepting rows p next ts us part
+    → Ready task e
 ready d =
     record { sheet = _; accepting = _; rows = _; from = _; next = _; ts = _; us = _; part = _; doing = d }
+
+-- and what is emitted for it
+pub emits_in : {task : Task} {e r : Emitter} {text : List ℕ} {h : Sheet} {accepting : List ℕ} {rows : List Row} {p next : ℕ} {ts us : Ts} {part : Part}
+    → Emits task e r
+    → e.cursor.text.now ≡ text
+    → Doing task text e.out.now (place_of e) h accepting rows p next ts us part
+    → Emitted text r.out.now (place_of r) h accepting rows us part
+emits_in {task} {e} {r} {text} {h} {accepting} {rows} {p} {next} {ts} {us} {part} emits same =
+    subst (λ (t : List ℕ). Doing task t e.out.now (place_of e) h accepting rows p next ts us part → Emitted t r.out.now (place_of r) h accepting rows us part) same emits.emits
+
+-- an emitter with an equal cursor is the same
+module _ {task : Task} {k k' : Cursor} (same : k' ≡ k) {out : MutBor (List ℕ)} {state next row : ℕ} where
+  pub ready_at : Ready task (record { cursor = k; out = out; state = state; next = next; row = row }) → Ready task (record { cursor = k'; out = out; state = state; next = next; row = row })
+  ready_at r =
+      subst (λ (c : Cursor). Ready task (record { cursor = c; out = out; state = state; next = next; row = row })) (sym same) r
+
+  pub emits_at : {r : Emitter} → Emits task (record { cursor = k'; out = out; state = state; next = next; row = row }) r → Emits task (record { cursor = k; out = out; state = state; next = next; row = row }) r
+  emits_at {r} e =
+      subst (λ (c : Cursor). Emits task (record { cursor = c; out = out; state = state; next = next; row = row }) r) same e
+
+  pub emits_until : {e : Emitter} → Emits task e (record { cursor = k; out = out; state = state; next = next; row = row }) → Emits task e (record { cursor = k'; out = out; state = state; next = next; row = row })
+  emits_until {e} f =
+      subst (λ (c : Cursor). Emits task e (record { cursor = c; out = out; state = state; next = next; row = row })) (sym same) f
 
 module _ {text out : List ℕ} {place : Place} {h : Sheet} {accepting : List ℕ} {rows : List Row} {p next : ℕ} {ts : Ts} (stands : At text out place h accepting rows p next ts) where
   -- the image is there

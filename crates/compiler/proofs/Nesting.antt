@@ -7,7 +7,6 @@ use mathlib.Core.Bool.{not}
 use mathlib.Core.List.{List, [], ◌∷◌, ◌++◌, append-nil, append_assoc}
 use lib.ListN.{length, drop}
 use lib.Dec.{T, eqb}
-use types.Run.{OneOf}
 use Rattle.text.specs.Token.{Token, word, w, s}
 use Rattle.text.specs.Tokens.{◌at◌}
 use Rattle.text.specs.First.{IsWord}
@@ -21,13 +20,12 @@ use Rattle.rule.proofs.Invert as Invert
 use Rattle.rule.specs.Inside.Within.{StatementWithin, RestWithin}
 use Rattle.construction.specs.Construction.{free, Part, test, if_part, loop_part, and_then, statement_part, rest_part, statements_part}
 use Rattle.compiler.specs.Inside.Writing.{Sheet, Filled, Room, Writes}
-use Rattle.compiler.specs.Inside.Seeing.{Here, Behind, SeenAs, Sees, GoesPast}
+use Rattle.compiler.specs.Inside.Seeing.{Here, Behind, SeenAs, SeesWord, NotWord, GoesPast}
 use Rattle.compiler.specs.Inside.Emission.{At, Task, Doing, Emitted, rows_part, TestTask, tests, EntryTask, chooses, asks, Follows, HeadedTask, RestTask, the_rest, closed_part, BodyTask, a_body, ElseTask, an_else}
-use Rattle.compiler.specs.declared.Place.{Place}
-use Rattle.compiler.specs.declared.see.Seen.{Seen}
+use Rattle.compiler.specs.Inside.Place.{Place}
 use Rattle.construction.proofs.Counts.{test_next, rest_next, statements_next}
-use Rattle.compiler.proofs.Tags.{word_tag, word_tags, none_of}
-use Rattle.compiler.proofs.Seeing.{here_some, seen_word, word_at}
+use Rattle.compiler.proofs.Tags.{word_tag}
+use Rattle.compiler.proofs.Seeing.{here_some, word_at}
 use Rattle.compiler.proofs.Emission.{
   at_room,
   at_rows,
@@ -249,38 +247,37 @@ record NoElse (to p next : ℕ) (ts us : Ts) (part : Part) : Type 0 where
   pub below : to < next
   pub is : part ≡ closed_part (rows_part [] p next) to
 
-no_else_lem : {text : List ℕ} {from k e b : ℕ} {x : Word} {g : Sign} {to : ℕ} {alphabet : List ℕ} {p next : ℕ} {ts us : Ts} {part : Part}
+no_else_lem : {text : List ℕ} {from to : ℕ} {alphabet : List ℕ} {p next : ℕ} {ts us : Ts} {part : Part}
     → ElseTask to alphabet p next ts us part
-    → SeenAs text from ts x g b k e
-    → OneOf (word_tags (14 ∷ [])) (word_tag x)
+    → Here text from ts
+    → NotWord text from Word.Else
     → NoElse to p next ts us part
 unfolding rest_part
-no_else_lem (an_else nothing follows within below) seen other = record { same = refl; below = below; is = refl }
-no_else_lem {x = x} (an_else (else b) follows within below) seen other =
-    absurd (none_of (word_tags (14 ∷ [])) (word_tag x) 14 tt other (ap word_tag (seen_word Word.Else seen refl)))
+no_else_lem (an_else nothing follows within below) here other = record { same = refl; below = below; is = refl }
+no_else_lem (an_else (else b) follows within below) here other = absurd (other.other here refl)
 
-module _ {text out : List ℕ} {place : Place} {to : ℕ} {t : Seen} (sees : Sees text place.at t)
+module _ {text out : List ℕ} {place : Place} {to : ℕ}
     {h : Sheet} {accepting : List ℕ} {rows : List Row} {p next : ℕ} {ts us : Ts} {part : Part}
     (d : Doing (ElseTask to) text out place h accepting rows p next ts us part) where
-  module _ (is : t.word ≡ Word.Else) where
-    abbrev else_here : HeadAt text place.at t.end (w "else") ts
-    else_here = head_at Word.Else _ (λ bytes which. which) tt (sees.stands ts d.stands.here) is
+  module _ {end : ℕ} (sees : SeesWord text place.at end Word.Else) where
+    abbrev else_here : HeadAt text place.at end (w "else") ts
+    else_here = head_at Word.Else _ (λ bytes which. which) tt (sees.sees.stands ts d.stands.here) refl
 
-    pub else_doing : Doing (BodyTask to) text out (record { at = t.end; state = place.state; next = place.next; row = place.row }) h accepting rows p next else_here.rest us part
+    pub else_doing : Doing (BodyTask to) text out (record { at = end; state = place.state; next = place.next; row = place.row }) h accepting rows p next else_here.rest us part
     else_doing =
         record {
-          stands = at_moved t.end d.stands else_here.behind.here;
+          stands = at_moved end d.stands else_here.behind.here;
           is = else_block (subst (λ (xs : Ts). ElseTask to h.alphabet p next xs us part) else_here.is d.is);
           states = d.states;
           fits = d.fits;
         }
 
-    pub else_onward : (place.at < t.end) × (t.end ≤ length text)
+    pub else_onward : (place.at < end) × (end ≤ length text)
     else_onward = (else_here.behind.onward, else_here.behind.within)
 
-  module _ (other : OneOf (word_tags (14 ∷ [])) (word_tag t.word)) where
+  module _ (other : NotWord text place.at Word.Else) where
     abbrev without : NoElse to p next ts us part
-    without = no_else_lem d.is (sees.stands ts d.stands.here) other
+    without = no_else_lem d.is d.stands.here other
 
     empty : Emitted text out place h accepting rows us (rows_part [] p next)
     empty = subst (λ (xs : Ts). Emitted text out place h accepting rows xs (rows_part [] p next)) without.same (nothing_emitted d.stands)
@@ -410,25 +407,24 @@ choice : {into over : ℕ} {alphabet : List ℕ} {p next k : ℕ} {ts us : Ts} {
 choice {into = into} {over = over} {alphabet = alphabet} {p = p} {next = next} {k = k} {ts = ts} {us = us} {part = part} (asks x4) = elim x4 [ ]
 choice (chooses inside outside) = record { same = refl; is = refl; inside = inside; outside = outside }
 
-asked_only : {text : List ℕ} {from k e b : ℕ} {x : Word} {g : Sign} {into over : ℕ} {alphabet : List ℕ} {p next : ℕ} {ts us : Ts} {part : Part}
+asked_only : {text : List ℕ} {from into over : ℕ} {alphabet : List ℕ} {p next : ℕ} {ts us : Ts} {part : Part}
     → EntryTask into over alphabet p next ts us part
-    → SeenAs text from ts x g b k e
-    → OneOf (word_tags (16 ∷ [])) (word_tag x)
+    → Here text from ts
+    → NotWord text from Word.Choose
     → TestTask into over alphabet p next ts us part
-asked_only {x = x} (chooses inside outside) seen other =
-    absurd (none_of (word_tags (16 ∷ [])) (word_tag x) 16 tt other (ap word_tag (seen_word Word.Choose seen refl)))
-asked_only (asks t) seen other = t
+asked_only (chooses inside outside) here other = absurd (other.other here refl)
+asked_only (asks t) here other = t
 
-module _ {text out : List ℕ} {place : Place} {into over : ℕ} {t : Seen} (sees : Sees text place.at t)
+module _ {text out : List ℕ} {place : Place} {into over : ℕ}
     {h : Sheet} {accepting : List ℕ} {rows : List Row} {p next : ℕ} {ts us : Ts} {part : Part}
     (d : Doing (EntryTask into over) text out place h accepting rows p next ts us part) where
-  pub entry_asks : OneOf (word_tags (16 ∷ [])) (word_tag t.word) → Doing (TestTask into over) text out place h accepting rows p next ts us part
+  pub entry_asks : NotWord text place.at Word.Choose → Doing (TestTask into over) text out place h accepting rows p next ts us part
   entry_asks other =
-      record { stands = d.stands; is = asked_only d.is (sees.stands ts d.stands.here) other; states = d.states; fits = d.fits }
+      record { stands = d.stands; is = asked_only d.is d.stands.here other; states = d.states; fits = d.fits }
 
-  module _ (is : t.word ≡ Word.Choose) where
-    abbrev choose_here : HeadAt text place.at t.end (w "choose") ts
-    choose_here = head_at Word.Choose _ (λ bytes which. which) tt (sees.stands ts d.stands.here) is
+  module _ {end : ℕ} (sees : SeesWord text place.at end Word.Choose) where
+    abbrev choose_here : HeadAt text place.at end (w "choose") ts
+    choose_here = head_at Word.Choose _ (λ bytes which. which) tt (sees.sees.stands ts d.stands.here) refl
 
     abbrev choice_here : Choice into over p next choose_here.rest us part
     choice_here = choice (subst (λ (xs : Ts). EntryTask into over h.alphabet p next xs us part) choose_here.is d.is)
@@ -439,7 +435,7 @@ module _ {text out : List ℕ} {place : Place} {into over : ℕ} {t : Seen} (see
     choice_few : next ≤ 128
     choice_few = subst (λ (x : Part). x.next ≤ 128) choice_here.is d.states
 
-    pub choice_onward : place.at < t.end
+    pub choice_onward : place.at < end
     choice_onward = choose_here.behind.onward
 
     pub choice_room : Room out place.row (λ _. free place.state into ∷ []) × (place.state ≤ 128) × (into ≤ 128)
@@ -463,15 +459,15 @@ module _ {text out : List ℕ} {place : Place} {into over : ℕ} {t : Seen} (see
         omega (arith, choice_here.outside, choice_few),
       )
 
-      pub choice_emitted : {after : List ℕ} {end : ℕ}
-          → Writes middle after row end (λ _. free place.state over ∷ [])
-          → Emitted text after (record { at = t.end; state = place.state; next = place.next; row = end }) h accepting rows us part
+      pub choice_emitted : {after : List ℕ} {last : ℕ}
+          → Writes middle after row last (λ _. free place.state over ∷ [])
+          → Emitted text after (record { at = end; state = place.state; next = place.next; row = last }) h accepting rows us part
       unfolding and_then
-      choice_emitted {after} {end} second =
-          let both : Emitted text after (record { at = place.at; state = place.state; next = place.next; row = end }) h accepting rows ts (rows_part (free p into ∷ free p over ∷ []) p next) = emitted_then (rows_part (free p into ∷ []) p next) (rows_part (free p over ∷ []) p next) (free_emitted entered.stands over second_fits second) in
+      choice_emitted {after} {last} second =
+          let both : Emitted text after (record { at = place.at; state = place.state; next = place.next; row = last }) h accepting rows ts (rows_part (free p into ∷ free p over ∷ []) p next) = emitted_then (rows_part (free p into ∷ []) p next) (rows_part (free p over ∷ []) p next) (free_emitted entered.stands over second_fits second) in
           emitted_as choice_here.is
           (record {
-            stands = at_moved t.end both.stands (subst (Here text t.end) choice_here.same choose_here.behind.here);
+            stands = at_moved end both.stands (subst (Here text end) choice_here.same choose_here.behind.here);
           })
 
 -- a loop, by its parts

@@ -3,7 +3,7 @@
 use Prim.Native.Nat.{ℕ, zero, suc, ◌+◌, ◌-◌, ◌≤◌, ◌<◌}
 use native.Mathlib.Omega.{arith}
 use native.Mathlib.Numerals.{add-one}
-use mathlib.Core.Path.{◌≡◌, refl, sym, ◌∙◌, ap}
+use mathlib.Core.Path.{◌≡◌, refl, sym, ◌∙◌, ap, subst}
 use mathlib.Core.Bool.{Bool, true, false, not, true≢false}
 use mathlib.Core.List.{List, [], ◌∷◌}
 use lib.Dec.{T}
@@ -45,52 +45,68 @@ use Rattle.rule.specs.Grammar.{
 }
 use Rattle.compiler.specs.Inside.Seeing as Seen
 use Rattle.compiler.specs.Inside.Seeing.{Here, SeenAs}
-use Rattle.compiler.specs.Inside.Operators.{Bracketing, opening, closing, and, or, other, look_at, mark_of, marked, onward, ahead}
+use Rattle.compiler.specs.Inside.Operators.{is_or, Bracketing, opening, closing, and, or, other, look_at, mark_of, marked, onward, ahead}
 use Rattle.compiler.specs.Inside.Emission.{Closes, by_paren, by_or, joins, joined}
-use Rattle.compiler.specs.declared.ahead.Looked.{Looked}
-use Rattle.compiler.specs.declared.ahead.Looked.TheVariants.{Answer, On}
-use Rattle.compiler.proofs.Seeing.{seen_behind}
+use Rattle.std.specs.declared.ops.ControlFlow.{ControlFlow}
+use Rattle.std.specs.declared.ops.ControlFlow.TheVariants.{Continue, Break}
+use Rattle.compiler.specs.declared.ahead.Operator.{Operator}
+use Rattle.compiler.specs.contracts.ahead.Operator.{the_type as operator_type}
+use denote.Enum.Bare.{sameb}
+use Rattle.std.specs.Prelude.{Some, None}
+use Rattle.text.specs.First.{FirstToken}
+use Rattle.text.specs.declared.Token.{Token}
+use Rattle.compiler.specs.Inside.Seeing.{end_of}
+use Rattle.compiler.proofs.Seeing.{sign_in, seen_behind, first_seen, first_falls, end_some, end_none}
 
 -- what the code finds at a sign, by the sign and the depth
 module _ (depth : ℕ) (sought : Bool) where
-  pub look_opening : On (depth + 1) ≡ look_at opening depth sought
+  pub look_opening : Continue (depth + 1) ≡ look_at opening depth sought
   unfolding look_at
-  look_opening = ap On (add-one depth)
+  look_opening = ap Continue (add-one depth)
 
-  pub look_other : On depth ≡ look_at other depth sought
+  pub look_other : Continue depth ≡ look_at other depth sought
   unfolding look_at
   look_other = refl
 
-  pub look_closing : depth ≡ 0 → Answer false ≡ look_at closing depth sought
+  pub look_closing : depth ≡ 0 → Break false ≡ look_at closing depth sought
   unfolding look_at
   look_closing e = sym (ap (λ (n : ℕ). look_at closing n sought) e)
 
-  pub look_or : depth ≡ 0 → Answer sought ≡ look_at or depth sought
+  pub look_or : depth ≡ 0 → Break sought ≡ look_at or depth sought
   unfolding look_at
   look_or e = sym (ap (λ (n : ℕ). look_at or n sought) e)
 
-  pub look_and : depth ≡ 0 → sought ≡ false → Answer true ≡ look_at and depth sought
+  pub look_and : depth ≡ 0 → sought ≡ false → Break true ≡ look_at and depth sought
   unfolding look_at
   look_and e f = sym ((λ i. look_at and (e i) (f i)))
 
-  pub look_past_and : depth ≡ 0 → sought ≡ true → On depth ≡ look_at and depth sought
+  pub look_past_and : depth ≡ 0 → sought ≡ true → Continue depth ≡ look_at and depth sought
   unfolding look_at
-  look_past_and e f = ap On e ∙ sym (λ i. look_at and (e i) (f i))
+  look_past_and e f = ap Continue e ∙ sym (λ i. look_at and (e i) (f i))
 
-pub look_closed : (depth : ℕ) (sought : Bool) → (depth ≡ 0 → ⊥) → On (depth - 1) ≡ look_at closing depth sought
+pub look_closed : (depth : ℕ) (sought : Bool) → (depth ≡ 0 → ⊥) → Continue (depth - 1) ≡ look_at closing depth sought
 unfolding look_at
 look_closed zero sought n = absurd (n refl)
-look_closed (suc depth) sought n = let same : suc depth - 1 ≡ depth = omega arith in ap On same
+look_closed (suc depth) sought n = let same : suc depth - 1 ≡ depth = omega arith in ap Continue same
 
-pub look_deep_or : (depth : ℕ) (sought : Bool) → (depth ≡ 0 → ⊥) → On depth ≡ look_at or depth sought
+pub look_deep_or : (depth : ℕ) (sought : Bool) → (depth ≡ 0 → ⊥) → Continue depth ≡ look_at or depth sought
 unfolding look_at
 look_deep_or zero sought n = absurd (n refl)
 look_deep_or (suc depth) sought n = refl
 
-pub look_deep_and : (depth : ℕ) (sought : Bool) → (depth ≡ 0 → ⊥) → On depth ≡ look_at and depth sought
+pub look_deep_and : (depth : ℕ) (sought : Bool) → (depth ≡ 0 → ⊥) → Continue depth ≡ look_at and depth sought
 unfolding look_at
 look_deep_and zero sought n = absurd (n refl)
 look_deep_and (suc depth) sought n = refl
+
+-- which operator is sought, as the code asks
+pub or_told : (o : Operator) → sameb operator_type o Operator.Or ≡ is_or o
+or_told Operator.And = refl
+or_told Operator.Or = refl
+
+pub and_told : (o : Operator) → sameb operator_type o Operator.And ≡ not (is_or o)
+and_told Operator.And = refl
+and_told Operator.Or = refl
 
 -- a sign that is none of these counts for nothing
 pub other_mark : (ks : List ℕ) (x : Sign)
@@ -273,19 +289,19 @@ module _ (sought : Bool) (depth : ℕ) where
   seen_out Seen.nothing none = refl
 
   -- a token more
-  look_token : {text : List ℕ} {us : List Placed} {place p e b q : ℕ} {t : Spec.Token} {x : Word} {g : Sign} {r : Looked}
+  look_token : {text : List ℕ} {us : List Placed} {place p e b q : ℕ} {t : Spec.Token} {x : Word} {g : Sign} {r : ControlFlow Bool ℕ}
       → SeenAs text place ((t at q) ∷ us) x g b p e
       → look_at (mark_of g) depth sought ≡ r
       → ahead sought depth ((t at q) ∷ us) ≡ onward r (λ n. ahead sought n us)
   unfolding ahead
   look_token {us = us} seen is =
       ap (λ (m : Bracketing). onward (look_at m depth sought) (λ n. ahead sought n us)) (sym (seen_mark seen))
-      ∙ ap (λ (l : Looked). onward l (λ n. ahead sought n us)) is
+      ∙ ap (λ (l : ControlFlow Bool ℕ). onward l (λ n. ahead sought n us)) is
 
   seen_answer : {text : List ℕ} {place p e b : ℕ} {x : Word} {g : Sign} (rest : List Placed) (found : Bool)
       → SeenAs text place rest x g b p e
       → place < e
-      → look_at (mark_of g) depth sought ≡ Answer found
+      → look_at (mark_of g) depth sought ≡ Break found
       → ahead sought depth rest ≡ found
   seen_answer [] found Seen.nothing some is = absurd (omega arith)
   seen_answer ((t at q) ∷ us) found seen some is = look_token seen is
@@ -294,7 +310,7 @@ module _ (sought : Bool) (depth : ℕ) where
       → ahead sought 0 all ≡ ahead sought depth rest
       → SeenAs text place rest x g b p e
       → place < e
-      → look_at (mark_of g) depth sought ≡ On more
+      → look_at (mark_of g) depth sought ≡ Continue more
       → Looking text sought all e more
   seen_on all [] more same Seen.nothing some is = absurd (omega arith)
   seen_on all ((t at q) ∷ us) more same seen some is =
@@ -307,15 +323,38 @@ module _ {text : List ℕ} (sought : Bool) (all : List Placed) {place : ℕ} (de
     looked_out none = sym (l.same ∙ seen_out sought depth seen none)
 
     -- an answer is the answer
-    pub looked_answer : (found : Bool) → place < e → look_at (mark_of g) depth sought ≡ Answer found → found ≡ ahead sought 0 all
+    pub looked_answer : (found : Bool) → place < e → look_at (mark_of g) depth sought ≡ Break found → found ≡ ahead sought 0 all
     looked_answer found some is = sym (l.same ∙ seen_answer sought depth l.rest found seen some is)
 
     -- else it is looked on
-    pub looked_on : (more : ℕ) → place < e → look_at (mark_of g) depth sought ≡ On more → Looking text sought all e more
+    pub looked_on : (more : ℕ) → place < e → look_at (mark_of g) depth sought ≡ Continue more → Looking text sought all e more
     looked_on more some is = seen_on sought depth all l.rest more l.same seen some is
 
+-- and past a token that is no sign
+pub looked_past : {text : List ℕ} (sought : Bool) (all : List Placed) {place : ℕ} (depth : ℕ) {e : ℕ} {r : Token}
+    → Looking text sought all place depth
+    → FirstToken text place r
+    → sign_in r ≡ Sign.Semicolon
+    → end_of r ≡ Some e
+    → Looking text sought all e depth
+looked_past {text} sought all {place} depth {r = r} l first none end =
+    let falls = first_falls r first end in
+    let is = end_some place r end in
+    subst (λ (n : ℕ). Looking text sought all n depth) is
+    (looked_on sought all depth l (first_seen r first refl _ l.here) depth (omega (arith, falls, is))
+    (ap (λ (g : Sign). look_at (mark_of g) depth sought) none ∙ sym (look_other depth sought)))
+
+-- with no token left there is no operator
+pub looked_end : {text : List ℕ} (sought : Bool) (all : List Placed) {place : ℕ} (depth : ℕ) {r : Token}
+    → Looking text sought all place depth
+    → FirstToken text place r
+    → end_of r ≡ None
+    → false ≡ ahead sought 0 all
+looked_end sought all {place} depth {r = r} l first none =
+    looked_out sought all depth l (first_seen r first refl _ l.here) (omega (arith, end_none place r none))
+
 -- and not deeper than by one
-pub looked_deeper : (m : Bracketing) (depth : ℕ) (sought : Bool) (more : ℕ) → look_at m depth sought ≡ On more → more ≤ depth + 1
+pub looked_deeper : (m : Bracketing) (depth : ℕ) (sought : Bool) (more : ℕ) → look_at m depth sought ≡ Continue more → more ≤ depth + 1
 unfolding look_at
 looked_deeper opening depth sought more e = let same : suc depth ≡ more = cc in omega arith
 looked_deeper closing zero sought more e = absurd (let z : ◌≡◌ {A = ℕ} 0 1 = cc in omega arith)

@@ -4,9 +4,10 @@ use native.Mathlib.Omega.{arith}
 use native.Mathlib.Numerals.{add-one}
 use native.Mathlib.Decide.{dec_lt}
 use mathlib.Core.Path.{◌≡◌, refl, sym, ◌∙◌, ap, subst}
-use mathlib.Core.Bool.{not}
+use mathlib.Core.Bool.{Bool, not}
 use mathlib.Core.List.{List, [], ◌∷◌, cons≢nil}
-use lib.ListN.{length, get_or, take, drop}
+use Rattle.std.specs.Prelude.{unwrap_or, Option, Some, None}
+use lib.ListN.{length, get_or, drop, length-drop, drop_of_length-le}
 use lib.Seq.{drop-drop, drop-cons}
 use lib.Dec.{T, leb, leb→le, eqb, T_not}
 use Rattle.bits.specs.Byte.{is_digit, is_letter}
@@ -26,7 +27,8 @@ use Rattle.text.proofs.Follow.{place_of, first_onward}
 use Rattle.rule.specs.Limits.{value_from}
 use Rattle.compiler.specs.Inside.Seeing as Seen
 use Rattle.compiler.proofs.Tags.{word_tag, sign_tag}
-use Rattle.compiler.specs.Inside.Seeing.{Here, Behind, SeenAs, nothing, Reaches, Digits}
+use Rattle.compiler.specs.Inside.Seeing.{Here, Behind, SeenAs, nothing, Sees, end_of, Reaches, GoesPast, Skips, SeesWord, SeesSign, NotWord, NotSign, EatsSign, Digits}
+use Rattle.compiler.specs.declared.see.Cursor.{Cursor}
 
 -- what each answer shows
 abbrev pub word_in : Token → Word
@@ -54,17 +56,17 @@ byte_in (Token.End p) = 0
 byte_in (Token.Broken p) = 0
 
 -- where it ends, asked for from a place
-abbrev pub end_of : ℕ → Token → ℕ
-end_of from (Token.Word p q x) = q
-end_of from (Token.Number p q) = q
-end_of from (Token.Letter p q b) = q
-end_of from (Token.Sign p q x) = q
-end_of from (Token.End p) = from
-end_of from (Token.Broken p) = from
+abbrev pub end_from : ℕ → Token → ℕ
+end_from from (Token.Word p q x) = q
+end_from from (Token.Number p q) = q
+end_from from (Token.Letter p q b) = q
+end_from from (Token.Sign p q x) = q
+end_from from (Token.End p) = from
+end_from from (Token.Broken p) = from
 
 -- what is seen of an answer
 abbrev pub SeenBy : List ℕ → ℕ → List Placed → Token → Type 0
-SeenBy text from ts r = SeenAs text from ts (word_in r) (sign_in r) (byte_in r) (place_of r) (end_of from r)
+SeenBy text from ts r = SeenAs text from ts (word_in r) (sign_in r) (byte_in r) (place_of r) (end_from from r)
 
 digits_spelt : {l n : List ℕ} → Spells l (number n) → T (every is_digit n)
 digits_spelt (a_number {b = b} {bs = bs} t u) = and_of (is_digit b) (every is_digit bs) t u
@@ -97,6 +99,86 @@ first_seen {text} {from} r f same ts h =
     let first : FirstToken text from r = subst (FirstToken text from) same f in
     begins_seen ts h.ending r (first_onward first) (comes h.tokens first)
 
+pub sees_first : {text : List ℕ} {from : ℕ} {s : Token} (r : Token)
+    → FirstToken text from s
+    → s ≡ r
+    → Sees text from (record { word = word_in r; sign = sign_in r; byte = byte_in r; start = place_of r; end = end_from from r })
+sees_first r f same = record { stands = first_seen r f same }
+
+-- the code's way to say where it ends
+pub end_or : (from : ℕ) (r : Token) → unwrap_or (end_of r) from ≡ end_from from r
+end_or from (Token.Word p q x) = refl
+end_or from (Token.Number p q) = refl
+end_or from (Token.Letter p q b) = refl
+end_or from (Token.Sign p q x) = refl
+end_or from (Token.End p) = refl
+end_or from (Token.Broken p) = refl
+
+-- what stands where a word stands, a letter, a number
+word_begins : (text : List ℕ) (l : List ℕ) (q : ℕ) (us : List Placed) (e : Ending) (r : Token)
+    → Begins text ((word l at q) ∷ us) e r
+    → (p : ℕ) × (k : ℕ) × (x : Word) × (r ≡ Token.Word p k x)
+word_begins text l q us e (Token.Word p k x) b = (p, k, x, refl)
+word_begins text l q us e (Token.Number p k) b = absurd (let same = b.first in cc)
+word_begins text l q us e (Token.Letter p k c) b = absurd (let same = b.first in cc)
+word_begins text l q us e (Token.Sign p k x) b = absurd (let same = b.first in cc)
+word_begins text l q us e (Token.End p) b = absurd (let same = b.none in cc)
+word_begins text l q us e (Token.Broken p) b = absurd (let same = b.none in cc)
+
+pub word_stands : {text : List ℕ} {from q : ℕ} {us : List Placed} {l : List ℕ} {r : Token}
+    → FirstToken text from r
+    → Here text from ((word l at q) ∷ us)
+    → (p : ℕ) × (k : ℕ) × (x : Word) × (r ≡ Token.Word p k x)
+word_stands {r = r} f h = word_begins _ _ _ _ _ r (comes h.tokens f)
+
+sign_begins : (text : List ℕ) (l : List ℕ) (q : ℕ) (us : List Placed) (e : Ending) (r : Token)
+    → Begins text ((sign l at q) ∷ us) e r
+    → (p : ℕ) × (k : ℕ) × (x : Sign) × (r ≡ Token.Sign p k x)
+sign_begins text l q us e (Token.Word p k x) b = absurd (let same = b.next.first in cc)
+sign_begins text l q us e (Token.Number p k) b = absurd (let same = b.first in cc)
+sign_begins text l q us e (Token.Letter p k c) b = absurd (let same = b.first in cc)
+sign_begins text l q us e (Token.Sign p k x) b = (p, k, x, refl)
+sign_begins text l q us e (Token.End p) b = absurd (let same = b.none in cc)
+sign_begins text l q us e (Token.Broken p) b = absurd (let same = b.none in cc)
+
+pub sign_stands : {text : List ℕ} {from q : ℕ} {us : List Placed} {l : List ℕ} {r : Token}
+    → FirstToken text from r
+    → Here text from ((sign l at q) ∷ us)
+    → (p : ℕ) × (k : ℕ) × (x : Sign) × (r ≡ Token.Sign p k x)
+sign_stands {r = r} f h = sign_begins _ _ _ _ _ r (comes h.tokens f)
+
+letter_begins : (text : List ℕ) (a : ℕ) (q : ℕ) (us : List Placed) (e : Ending) (r : Token)
+    → Begins text ((letter a at q) ∷ us) e r
+    → (p : ℕ) × (k : ℕ) × (b : ℕ) × (r ≡ Token.Letter p k b)
+letter_begins text a q us e (Token.Word p k x) b = absurd (let same = b.next.first in cc)
+letter_begins text a q us e (Token.Number p k) b = absurd (let same = b.first in cc)
+letter_begins text a q us e (Token.Letter p k c) b = (p, k, c, refl)
+letter_begins text a q us e (Token.Sign p k x) b = absurd (let same = b.first in cc)
+letter_begins text a q us e (Token.End p) b = absurd (let same = b.none in cc)
+letter_begins text a q us e (Token.Broken p) b = absurd (let same = b.none in cc)
+
+pub letter_stands : {text : List ℕ} {from q : ℕ} {us : List Placed} {a : ℕ} {r : Token}
+    → FirstToken text from r
+    → Here text from ((letter a at q) ∷ us)
+    → (p : ℕ) × (k : ℕ) × (b : ℕ) × (r ≡ Token.Letter p k b)
+letter_stands {r = r} f h = letter_begins _ _ _ _ _ r (comes h.tokens f)
+
+number_begins : (text : List ℕ) (n : List ℕ) (q : ℕ) (us : List Placed) (e : Ending) (r : Token)
+    → Begins text ((number n at q) ∷ us) e r
+    → (p : ℕ) × (k : ℕ) × (r ≡ Token.Number p k)
+number_begins text n q us e (Token.Word p k x) b = absurd (let same = b.next.first in cc)
+number_begins text n q us e (Token.Number p k) b = (p, k, refl)
+number_begins text n q us e (Token.Letter p k c) b = absurd (let same = b.first in cc)
+number_begins text n q us e (Token.Sign p k x) b = absurd (let same = b.first in cc)
+number_begins text n q us e (Token.End p) b = absurd (let same = b.none in cc)
+number_begins text n q us e (Token.Broken p) b = absurd (let same = b.none in cc)
+
+pub number_stands : {text : List ℕ} {from q : ℕ} {us : List Placed} {n : List ℕ} {r : Token}
+    → FirstToken text from r
+    → Here text from ((number n at q) ∷ us)
+    → (p : ℕ) × (k : ℕ) × (r ≡ Token.Number p k)
+number_stands {r = r} f h = number_begins _ _ _ _ _ r (comes h.tokens f)
+
 -- where there are tokens there is text
 pub here_some : {text : List ℕ} {from : ℕ} {t : Placed} {ts : List Placed} → Here text from (t ∷ ts) → from < length text
 here_some {text} {from} h = by_cases (dec_lt from (length text))
@@ -128,60 +210,44 @@ reach_more {text} {from} {i} {mid} end ts more r b =
       here = subst (Here text end) (drop-drop 1 i ts) b.here;
     }
 
--- the digits from a place on: the first, and those behind it
-part-cons : (text : List ℕ) (i to : ℕ) → i < to → to ≤ length text → part text i to ≡ get_or text i 0 ∷ part text (i + 1) to
-part-cons text i to low high =
-    let more : to - i ≡ suc (to - (i + 1)) = omega arith in
-    ap (take (to - i)) (drop-cons text i 0 (omega arith))
-    ∙ ap (λ (n : ℕ). take n (get_or text i 0 ∷ drop (suc i) text)) more
-    ∙ ap (λ (n : ℕ). get_or text i 0 ∷ take (to - (i + 1)) (drop n text)) (sym (add-one i))
-
 value_least : (ds : List ℕ) (n : ℕ) → n ≤ value_from n ds
 unfolding value_from
 value_least [] n = omega arith
 value_least (d ∷ ds) n = omega (arith, value_least ds (10 * n + (d - 48)))
 
 -- the value so far and the digits that are left give the whole value
-pub record Counting (text : List ℕ) (from to value i : ℕ) : Type 0 where
-  pub order : i ≤ to
-  pub digits : T (every is_digit (part text i to))
-  pub same : value_from value (part text i to) ≡ value_from 0 (part text from to)
+pub record Counting (ds : List ℕ) (value i : ℕ) : Type 0 where
+  pub digits : T (every is_digit (drop i ds))
+  pub same : value_from value (drop i ds) ≡ value_from 0 ds
 
-module _ (text : List ℕ) (from to value i : ℕ) (d : Digits text from to) (c : Counting text from to value i) where
+pub count_none : {ds : List ℕ} → Digits ds → Counting ds 0 0
+count_none d = record { digits = d.digits; same = refl }
+
+module _ (ds : List ℕ) (value i : ℕ) (d : Digits ds) (c : Counting ds value i) where
   -- a digit more
-  digit : i < to → T (every is_digit (get_or text i 0 ∷ part text (i + 1) to))
-  digit more = subst (λ (l : List ℕ). T (every is_digit l)) (part-cons text i to more d.within) c.digits
+  digit : i < length ds → T (every is_digit (get_or ds i 0 ∷ drop (suc i) ds))
+  digit more = subst (λ (l : List ℕ). T (every is_digit l)) (drop-cons ds i 0 more) c.digits
 
-  pub digit_bounds : i < to → (48 ≤ get_or text i 0) × (10 * value + (get_or text i 0 - 48) ≤ 63)
+  moved : i < length ds → value_from (10 * value + (get_or ds i 0 - 48)) (drop (suc i) ds) ≡ value_from 0 ds
   unfolding value_from
+  moved more = ap (value_from value) (sym (drop-cons ds i 0 more)) ∙ c.same
+
+  pub digit_bounds : i < length ds → (48 ≤ get_or ds i 0) × (10 * value + (get_or ds i 0 - 48) ≤ 63)
   digit_bounds more =
-      let b = get_or text i 0 in
-      let rest = part text (i + 1) to in
-      let is = and_left (is_digit b) (every is_digit rest) (digit more) in
-      let moved : value_from (10 * value + (b - 48)) rest ≡ value_from 0 (part text from to) = ap (value_from value) (sym (part-cons text i to more d.within)) ∙ c.same in
-      (leb→le 48 b (and_left (leb 48 b) (leb b 57) is), omega (arith, value_least rest (10 * value + (b - 48)), d.small))
+      let b = get_or ds i 0 in
+      let is = and_left (is_digit b) (every is_digit (drop (suc i) ds)) (digit more) in
+      (leb→le 48 b (and_left (leb 48 b) (leb b 57) is), omega (arith, value_least (drop (suc i) ds) (10 * value + (b - 48)), moved more, d.small))
 
-  pub count_more : i < to → Counting text from to (10 * value + (get_or text i 0 - 48)) (i + 1)
-  unfolding value_from
+  pub count_more : i < length ds → Counting ds (10 * value + (get_or ds i 0 - 48)) (i + 1)
   count_more more =
-      let b = get_or text i 0 in
       record {
-        order = omega arith;
-        digits = and_right (is_digit b) (every is_digit (part text (i + 1) to)) (digit more);
-        same = ap (value_from value) (sym (part-cons text i to more d.within)) ∙ c.same;
+        digits = rw (add-one i) (and_right (is_digit (get_or ds i 0)) (every is_digit (drop (suc i) ds)) (digit more));
+        same = rw (add-one i) (moved more);
       }
 
-  pub count_all : to ≤ i → value ≡ value_from 0 (part text from to)
+  pub count_all : length ds ≤ i → value ≡ value_from 0 ds
   unfolding value_from
-  count_all over =
-      let none : part text i to ≡ [] = ap (λ (n : ℕ). take n (drop i text)) (zero_left i to over) in
-      ap (value_from value) (sym none) ∙ c.same
-    where
-      zero_left : (i to : ℕ) → to ≤ i → to - i ≡ 0
-      zero_left i to over = omega arith
-
-pub count_none : {text : List ℕ} {from to : ℕ} → Digits text from to → Counting text from to 0 from
-count_none d = record { order = d.order; digits = d.digits; same = refl }
+  count_all over = ap (value_from value) (sym (drop_of_length-le ds over)) ∙ c.same
 
 -- bytes are one word, and a sign is written in one way
 pub word_same : {x y : Word} (l : List ℕ) → IsWord x l → IsWord y l → x ≡ y
@@ -249,26 +315,146 @@ word_at y t (Seen.a_letter b h) is = absurd (no_other y t is)
 word_at y t (Seen.a_sign l h) is = absurd (no_other y t is)
 word_at y t Seen.nothing is = absurd (no_other y t is)
 
--- what is seen of a number
-pub record NumberSeen (text : List ℕ) (from : ℕ) (n : List ℕ) (us : List Placed) (g : Sign) (p e : ℕ) : Type 0 where
-  pub no_sign : g ≡ Sign.Semicolon
-  pub bytes : n ≡ part text p e
-  pub digits : T (every is_digit n)
-  pub order : p ≤ e
-  pub behind : Behind text from e us
-
-pub seen_number : {text : List ℕ} {from p e b q : ℕ} {n : List ℕ} {us : List Placed} {x : Word} {g : Sign}
+-- a number that is seen
+pub number_read : {text : List ℕ} {from q p e : ℕ} {n : List ℕ} {us : List Placed} {x : Word} {g : Sign} {b : ℕ}
     → SeenAs text from ((number n at q) ∷ us) x g b p e
-    → NumberSeen text from n us g p e
-seen_number (Seen.a_number is digits order behind) =
-    record { no_sign = refl; bytes = is; digits = digits; order = order; behind = behind }
+    → (n ≡ part text p e) × T (every is_digit n) × (p ≤ e) × Behind text from e us
+number_read (Seen.a_number is digits order behind) = (is, digits, order, behind)
 
--- a small number's digits can be counted
-pub seen_digits : {text : List ℕ} {from : ℕ} {n : List ℕ} {us : List Placed} {g : Sign} {p e : ℕ} → NumberSeen text from n us g p e → value_from 0 n ≤ 63 → Digits text p e
-seen_digits {text} {n = n} {p = p} {e = e} seen small =
+-- and no sign is seen there
+pub number_no_sign : {text : List ℕ} {from q p e : ℕ} {n : List ℕ} {us : List Placed} {x : Word} {g : Sign} {b : ℕ}
+    → SeenAs text from ((number n at q) ∷ us) x g b p e
+    → g ≡ Sign.Semicolon
+number_no_sign (Seen.a_number is digits order behind) = refl
+
+-- a letter that is seen
+pub letter_read : {text : List ℕ} {from q p e : ℕ} {c : ℕ} {us : List Placed} {x : Word} {g : Sign} {b : ℕ}
+    → SeenAs text from ((letter c at q) ∷ us) x g b p e
+    → (b ≡ c) × Behind text from e us
+letter_read (Seen.a_letter t h) = (refl, h)
+
+-- the word that is wanted, or another, or none; and so with a sign
+pub word_hit : {text : List ℕ} {from : ℕ} {s : Token} {p e : ℕ} {x y : Word} → FirstToken text from s → s ≡ Token.Word p e x → x ≡ y → SeesWord text from e y
+word_hit {text} {from} {p = p} {e = e} {x = x} f is same =
+    record { sign = _; byte = _; start = _; sees = subst (λ (z : Word). Sees text from (record { word = z; sign = Sign.Semicolon; byte = 0; start = p; end = e })) same (sees_first (Token.Word p e x) f is) }
+
+pub sign_hit : {text : List ℕ} {from : ℕ} {s : Token} {p e : ℕ} {x y : Sign} → FirstToken text from s → s ≡ Token.Sign p e x → x ≡ y → SeesSign text from e y
+sign_hit {text} {from} {p = p} {e = e} {x = x} f is same =
+    record { word = _; byte = _; start = _; sees = subst (λ (z : Sign). Sees text from (record { word = Word.Other; sign = z; byte = 0; start = p; end = e })) same (sees_first (Token.Sign p e x) f is) }
+
+pub word_miss : {text : List ℕ} {from : ℕ} {s : Token} {y : Word} → FirstToken text from s → ((p e : ℕ) (x : Word) → s ≡ Token.Word p e x → ¬ (x ≡ y)) → NotWord text from y
+word_miss {y = y} f other =
     record {
-      order = seen.order;
-      within = seen.behind.within;
-      digits = subst (λ (l : List ℕ). T (every is_digit l)) seen.bytes seen.digits;
-      small = subst (λ (l : List ℕ). value_from 0 l ≤ 63) seen.bytes small;
+      other = λ here is.
+          let (p, e, x, same) = word_stands f here in
+          other p e x same (seen_word y (first_seen (Token.Word p e x) f same _ here) is);
     }
+
+pub sign_miss : {text : List ℕ} {from : ℕ} {s : Token} {y : Sign} → FirstToken text from s → ((p e : ℕ) (x : Sign) → s ≡ Token.Sign p e x → ¬ (x ≡ y)) → NotSign text from y
+sign_miss {y = y} f other =
+    record {
+      other = λ here is.
+          let (p, e, x, same) = sign_stands f here in
+          other p e x same (seen_sign y (first_seen (Token.Sign p e x) f same _ here) is);
+    }
+
+-- one token more is passed
+pub skip_more : {text : List ℕ} {from i mid end : ℕ} (r : Token) (ts : List Placed)
+    → i < length ts
+    → Reaches text from i mid (drop i ts)
+    → FirstToken text mid r
+    → end ≡ end_from mid r
+    → Reaches text from (i + 1) end (drop (i + 1) ts)
+skip_more {text} {from} {i} r ts more reach first is =
+    subst (λ (n : ℕ). Reaches text from (i + 1) n (drop (i + 1) ts)) (sym is)
+    (reach_more _ ts more reach (tail_behind (drop i ts) (omega (arith, length-drop i ts)) (first_seen r first refl (drop i ts) reach.here)))
+
+-- the digits of a number that stands there
+module _ {text : List ℕ} {from q p e : ℕ} {n : List ℕ} {us : List Placed} {r : Token}
+    (first : FirstToken text from r) (is : r ≡ Token.Number p e) (here : Here text from ((number n at q) ∷ us)) where
+  number_seen : (n ≡ part text p e) × T (every is_digit n) × (p ≤ e) × Behind text from e us
+  number_seen = number_read (first_seen (Token.Number p e) first is _ here)
+
+  pub number_within : (p ≤ e) × (e ≤ length text)
+  number_within = let (same, digits, order, behind) = number_seen in (order, behind.within)
+
+  pub number_digits : value_from 0 n ≤ 63 → Digits (part text p e)
+  number_digits small =
+      let (same, digits, order, behind) = number_seen in
+      record {
+        digits = subst (λ (l : List ℕ). T (every is_digit l)) same digits;
+        small = subst (λ (l : List ℕ). value_from 0 l ≤ 63) same small;
+      }
+
+  pub number_value : {value : ℕ} → value ≡ value_from 0 (part text p e) → (value ≡ value_from 0 n) × Behind text from e us
+  number_value counted =
+      let (same, digits, order, behind) = number_seen in
+      (counted ∙ ap (value_from 0) (sym same), behind)
+
+-- a token ends behind the place at which it was asked for, and in the text
+pub first_falls : {text : List ℕ} {from : ℕ} {e : ℕ} (r : Token) → FirstToken text from r → end_of r ≡ Some e → (from < e) × (e ≤ length text)
+first_falls {e = e} (Token.Word p q x) f same =
+    let is : q ≡ e = cc in
+    (omega (arith, first_onward f, f.begins.next.some), omega (arith, f.begins.next.within))
+first_falls {e = e} (Token.Number p q) f same =
+    let is : q ≡ e = cc in
+    (omega (arith, first_onward f, f.begins.some), omega (arith, f.begins.within))
+first_falls {e = e} (Token.Letter p q b) f same =
+    let is : q ≡ e = cc in
+    (omega (arith, first_onward f, f.begins.some), omega (arith, f.begins.within))
+first_falls {e = e} (Token.Sign p q x) f same =
+    let is : q ≡ e = cc in
+    (omega (arith, first_onward f, f.begins.some), omega (arith, f.begins.within))
+first_falls (Token.End p) f same = absurd cc
+first_falls (Token.Broken p) f same = absurd cc
+
+-- where no sign is answered none is seen, and a token that ends somewhere is seen up to there
+pub unsigned : (r : Token) → ((p e : ℕ) (x : Sign) → r ≡ Token.Sign p e x → ⊥) → sign_in r ≡ Sign.Semicolon
+unsigned (Token.Word p q x) other = refl
+unsigned (Token.Number p q) other = refl
+unsigned (Token.Letter p q b) other = refl
+unsigned (Token.Sign p q x) other = absurd (other p q x refl)
+unsigned (Token.End p) other = refl
+unsigned (Token.Broken p) other = refl
+
+pub end_some : (from : ℕ) {e : ℕ} (r : Token) → end_of r ≡ Some e → end_from from r ≡ e
+end_some from r same = sym (end_or from r) ∙ ap (λ (o : Option ℕ). unwrap_or o from) same
+
+pub end_none : (from : ℕ) (r : Token) → end_of r ≡ None → end_from from r ≡ from
+end_none from r same = sym (end_or from r) ∙ ap (λ (o : Option ℕ). unwrap_or o from) same
+
+-- the same in a text that is equal, and from a cursor that is equal
+pub passes_in : {k r : Cursor} {text : List ℕ} {many : ℕ} → k.text.now ≡ text → Skips k r many → GoesPast text k.at many r.at
+passes_in {k} {r} {many = many} same skips = subst (λ (t : List ℕ). GoesPast t k.at many r.at) same skips.passes
+
+module _ {text' text : List ℕ} (same : text' ≡ text) {from : ℕ} where
+  pub word_in_text : {end : ℕ} {x : Word} → SeesWord text' from end x → SeesWord text from end x
+  word_in_text {end} {x} = subst (λ (t : List ℕ). SeesWord t from end x) same
+
+  pub sign_in_text : {end : ℕ} {x : Sign} → SeesSign text' from end x → SeesSign text from end x
+  sign_in_text {end} {x} = subst (λ (t : List ℕ). SeesSign t from end x) same
+
+  pub no_word_in_text : {x : Word} → NotWord text' from x → NotWord text from x
+  no_word_in_text {x} = subst (λ (t : List ℕ). NotWord t from x) same
+
+  pub no_sign_in_text : {x : Sign} → NotSign text' from x → NotSign text from x
+  no_sign_in_text {x} = subst (λ (t : List ℕ). NotSign t from x) same
+
+pub eats_from : {k k' r : Cursor} {x : Sign} {found : Bool} → k' ≡ k → EatsSign k' r x found → EatsSign k r x found
+eats_from {r = r} {x = x} {found = found} same = subst (λ (k : Cursor). EatsSign k r x found) same
+
+pub skips_from : {k k' r : Cursor} {many : ℕ} → k' ≡ k → Skips k' r many → Skips k r many
+skips_from {r = r} {many = many} same = subst (λ (k : Cursor). Skips k r many) same
+
+-- past so many tokens and not past another that is not the one that is wanted
+pub missed_sign : {k k₁ k₂ : Cursor} {many : ℕ} {x : Sign} → Skips k k₁ many → NotSign k₁.text.now k₁.at x × (k₂ ≡ k₁) → Skips k k₂ many × NotSign k.text.now k₂.at x
+missed_sign {k} {many = many} {x = x} skips (none, same) = (
+  subst (λ (c : Cursor). Skips k c many) (sym same) skips,
+  subst (λ (c : Cursor). NotSign k.text.now c.at x) (sym same) (no_sign_in_text skips.text none),
+)
+
+pub missed_word : {k k₁ k₂ : Cursor} {many : ℕ} {x : Word} → Skips k k₁ many → NotWord k₁.text.now k₁.at x × (k₂ ≡ k₁) → Skips k k₂ many × NotWord k.text.now k₂.at x
+missed_word {k} {many = many} {x = x} skips (none, same) = (
+  subst (λ (c : Cursor). Skips k c many) (sym same) skips,
+  subst (λ (c : Cursor). NotWord k.text.now c.at x) (sym same) (no_word_in_text skips.text none),
+)

@@ -1,14 +1,15 @@
 -- The settings as the emitter goes over them: letter by letter, the two in either order; what then is left to emit; and the whole.
 use Prim.Native.Nat.{ℕ, suc, ◌+◌, ◌≤◌, ◌<◌}
 use native.Mathlib.Omega.{arith}
-use mathlib.Core.Path.{◌≡◌, refl, sym, ◌∙◌, ap, subst}
-use mathlib.Core.Bool.{Bool, true, false}
+use mathlib.Core.Path.{◌≡◌, refl, sym, ◌∙◌, ap, subst, subst₂}
+use mathlib.Core.Bool.{Bool}
 use mathlib.Core.List.{List, [], ◌∷◌, ◌++◌, append_assoc}
 use lib.ListN.{length, get_or, take, drop, set, length-append, length-drop, take-append-drop}
-use lib.Seq.{drop-cons, drop-drop, set_at, length-take-le}
-use types.Run.{OneOf}
-use Rattle.text.specs.Token.{letter, w, s}
-use Rattle.text.specs.Tokens.{Placed, ◌at◌}
+use lib.Seq.{drop-cons, set_at, length-take-le}
+use Rattle.text.specs.Token.{letter, word, w, s}
+use Rattle.text.specs.Tokens.{◌at◌}
+use denote.Enum.Bare.{sameb}
+use Rattle.text.specs.contracts.Word.{the_type}
 use Rattle.text.specs.declared.Word.{Word}
 use Rattle.text.specs.declared.Sign.{Sign}
 use Rattle.table.specs.Form.{letters_place, rows_place}
@@ -37,15 +38,12 @@ use Rattle.construction.specs.Construction.{program_part, construct}
 use Rattle.construction.specs.Compile.{image_room}
 use Rattle.bits.specs.Inside.Over.{over}
 use Rattle.compiler.specs.Inside.Writing.{accept_bytes, written, row_place, Holds, Heads}
-use Rattle.compiler.specs.Inside.Seeing as Seen
-use Rattle.compiler.specs.Inside.Seeing.{Here, SeenAs, Sees, GoesPast}
+use Rattle.compiler.specs.Inside.Seeing.{Here, Behind, SeesWord, SeesSign, NotWord, NotSign, GoesPast, AtWord, AtLetter, ReadsLetter}
 use Rattle.compiler.specs.Inside.Emission.{Emits, RestTask, the_rest}
-use Rattle.compiler.specs.Inside.Setting.{LettersAt, Listing, Lists, Tells, SettingsAt, Settings, Settling, Settles, Fits, sheet_of, Beginning, Image}
-use Rattle.compiler.specs.declared.Place.{Place}
-use Rattle.compiler.specs.declared.see.Seen.{Seen}
-use Rattle.compiler.specs.declared.settings.Listed.{Listed}
+use Rattle.compiler.specs.Inside.Setting.{LettersAt, Letters, Listing, Lists, TruthAt, yes_at, no_at, AtTruth, Tells, SettingsAt, Settings, Settling, Settles, Fits, sheet_of, Beginning, Image}
+use Rattle.compiler.specs.declared.Emitter.{Emitter}
+use Rattle.compiler.specs.declared.see.Cursor.{Cursor}
 use Rattle.compiler.specs.declared.settings.Settled.{Settled}
-use Rattle.compiler.proofs.Tags.{word_tag, sign_tag, word_tags, sign_tags, none_of}
 use Rattle.compiler.proofs.Writing.{length-written, written_whole}
 use Rattle.compiler.proofs.Seeing.{seen_behind, seen_word, seen_sign}
 
@@ -103,9 +101,21 @@ so_far_none {before = before} {ts = ts} {l = l} a =
 pub record ListsSoFar (text before out : List ℕ) (from place count : ℕ) : Type 0 where
   pub lists : {ts us : Ts} {l : List Letter} → LettersAt text from before ts us l → SoFar text before out place count us l
 
--- the letter that is seen, and what is seen behind it
-byte_seen : {text : List ℕ} {from p e b q : ℕ} {us : List Placed} {x : Word} {g : Sign} {byte : ℕ} → SeenAs text from ((letter b at q) ∷ us) x g byte p e → byte ≡ b
-byte_seen (Seen.a_letter t h) = refl
+-- the next of them stands there
+record LetterStands (text : List ℕ) (place : ℕ) : Type 0 where
+  pub byte : ℕ
+  pub at₀ : ℕ
+  pub us : Ts
+  pub here : Here text place ((letter byte at at₀) ∷ us)
+
+first_letter : {text : List ℕ} {place : ℕ} {ts us : Ts} {l : List Letter} → IsLetters ts l us → Here text place ts → LetterStands text place
+first_letter one here = record { byte = _; at₀ = _; us = _; here = here }
+first_letter (more m) here = record { byte = _; at₀ = _; us = _; here = here }
+
+pub so_far_letter : {text before out : List ℕ} {count : ℕ} {us : Ts} {l : List Letter} {k : Cursor} → k.text.now ≡ text → SoFar text before out k.at count us l → AtLetter k
+so_far_letter {k = k} same f =
+    let l = first_letter f.letters f.here in
+    record { byte = l.byte; place = l.at₀; us = l.us; here = subst (λ (t : List ℕ). Here t k.at ((letter l.byte at l.at₀) ∷ l.us)) (sym same) l.here }
 
 -- there is room for one that is to come
 pub so_far_room : {text before out : List ℕ} {from place count : ℕ} {ts us : Ts} {l : List Letter}
@@ -118,243 +128,284 @@ so_far_room {before = before} {out = out} {l = l} a f =
     let long : length out ≡ length before = ap length f.written ∙ length_over before f.bytes (omega (arith, a.room)) in
     (omega (arith, f.counted), omega (arith, f.counted, a.room))
 
-module _ {text before out : List ℕ} {place count : ℕ} {us : Ts} {l : List Letter} {t n : Seen} (sees : Sees text place t) (sees' : Sees text t.end n) where
+-- a letter that is read
+pub record LetterRead (text : List ℕ) (place mid b : ℕ) : Type 0 where
+  pub reads : {byte q : ℕ} {vs : Ts} → Here text place ((letter byte at q) ∷ vs) → (b ≡ byte) × Behind text place mid vs
+
+pub letter_read_in : {text : List ℕ} {k r : Cursor} {b : ℕ} → k.text.now ≡ text → ReadsLetter k r b → LetterRead text k.at r.at b
+letter_read_in {k = k} {r = r} {b = b} same reads =
+    subst (λ (t : List ℕ). LetterRead t k.at r.at b) same (record { reads = reads.reads })
+
+module _ {text before out : List ℕ} {place mid count b : ℕ} {us : Ts} {l : List Letter} (reads : LetterRead text place mid b) where
   -- a comma behind it: another letter comes
-  comma : {rest : Ts} {left : List Letter} {end : ℕ} (bytes : List ℕ)
-      → IsLetters rest left ((s "]" at end) ∷ us)
+  comma : {rest : Ts} {left : List Letter} {close end : ℕ} (bytes : List ℕ)
+      → IsLetters rest left ((s "]" at close) ∷ us)
       → Here text place rest
       → bytes ++ letter_bytes left ≡ letter_bytes l
-      → out ≡ over before letters_place (bytes ++ (t.byte ∷ []))
-      → count ≡ length (bytes ++ (t.byte ∷ []))
-      → n.sign ≡ Sign.Comma
-      → SoFar text before out n.end count us l
+      → out ≡ over before letters_place (bytes ++ (b ∷ []))
+      → count ≡ length (bytes ++ (b ∷ []))
+      → SeesSign text mid end Sign.Comma
+      → SoFar text before out end count us l
   unfolding letter_bytes
-  comma bytes one here all written counted is =
-      let close = seen_sign Sign.CloseBracket (sees'.stands _ (seen_behind (sees.stands _ here)).here) refl in
-      let tags : ◌≡◌ {A = ℕ} 16 17 = ap sign_tag (sym close ∙ is) in
-      absurd (omega arith)
-  comma {end = end} bytes (more {ts = ts} {l = left} m) here all written counted is =
-      let first = sees.stands _ here in
+  comma bytes one here all written counted sees =
+      let same : Sign.Comma ≡ Sign.CloseBracket = seen_sign Sign.CloseBracket (sees.sees.stands _ (reads.reads here).1.here) refl in
+      absurd cc
+  comma {close = close} bytes (more {ts = ts} {l = left} m) here all written counted sees =
+      let r = reads.reads here in
       record {
         rest = ts;
         left = left;
-        bytes = bytes ++ (t.byte ∷ []);
-        end = end;
-        here = (seen_behind (sees'.stands _ (seen_behind first).here)).here;
+        bytes = bytes ++ (b ∷ []);
+        end = close;
+        here = (seen_behind (sees.sees.stands _ r.1.here)).here;
         letters = m;
-        all = append_assoc bytes (t.byte ∷ []) (letter_bytes left) ∙ ap (λ (b : ℕ). bytes ++ (b ∷ letter_bytes left)) (byte_seen first) ∙ all;
+        all = append_assoc bytes (b ∷ []) (letter_bytes left) ∙ ap (λ (x : ℕ). bytes ++ (x ∷ letter_bytes left)) r.0 ∙ all;
         written = written;
         counted = counted;
       }
 
   -- none: it was the last
-  last : {rest : Ts} {left : List Letter} {end : ℕ} (bytes : List ℕ)
-      → IsLetters rest left ((s "]" at end) ∷ us)
+  last : {rest : Ts} {left : List Letter} {close end : ℕ} (bytes : List ℕ)
+      → IsLetters rest left ((s "]" at close) ∷ us)
       → Here text place rest
       → bytes ++ letter_bytes left ≡ letter_bytes l
-      → out ≡ over before letters_place (bytes ++ (t.byte ∷ []))
-      → count ≡ length (bytes ++ (t.byte ∷ []))
-      → OneOf (sign_tags (17 ∷ [])) (sign_tag n.sign)
-      → Listing text before out us l (record { at = n.end; count = count })
+      → out ≡ over before letters_place (bytes ++ (b ∷ []))
+      → count ≡ length (bytes ++ (b ∷ []))
+      → NotSign text mid Sign.Comma
+      → GoesPast text mid 1 end
+      → Listing text before out end us l count
   unfolding letter_bytes
-  last bytes one here all written counted other =
-      let first = sees.stands _ here in
-      let whole : bytes ++ (t.byte ∷ []) ≡ letter_bytes l = ap (λ (b : ℕ). bytes ++ (b ∷ [])) (byte_seen first) ∙ all in
+  last bytes one here all written counted other pass =
+      let r = reads.reads here in
+      let whole : bytes ++ (b ∷ []) ≡ letter_bytes l = ap (λ (x : ℕ). bytes ++ (x ∷ [])) r.0 ∙ all in
       record {
-        here = (seen_behind (sees'.stands _ (seen_behind first).here)).here;
+        here = (pass.behind _ r.1.here (omega arith)).here;
         bytes = written ∙ ap (over before letters_place) whole;
         count = counted ∙ ap length whole ∙ length-letter_bytes l;
       }
-  last bytes (more m) here all written counted other =
-      let comma-seen = seen_sign Sign.Comma (sees'.stands _ (seen_behind (sees.stands _ here)).here) refl in
-      absurd (none_of (sign_tags (17 ∷ [])) (sign_tag n.sign) 17 tt other (ap sign_tag comma-seen))
+  last bytes (more m) here all written counted other pass =
+      absurd (other.other (reads.reads here).1.here refl)
 
 -- a turn of the loop
-module _ {text before out : List ℕ} {from place count : ℕ} {ts us : Ts} {l : List Letter} {t n : Seen}
-    (sees : Sees text place t) (sees' : Sees text t.end n) (a : LettersAt text from before ts us l) (f : SoFar text before out place count us l) where
-  put : set out (count + letters_place) t.byte ≡ over before letters_place (f.bytes ++ (t.byte ∷ []))
+module _ {text before out : List ℕ} {from place mid count b : ℕ} {ts us : Ts} {l : List Letter}
+    (reads : LetterRead text place mid b) (a : LettersAt text from before ts us l) (f : SoFar text before out place count us l) where
+  put : set out (count + letters_place) b ≡ over before letters_place (f.bytes ++ (b ∷ []))
   put =
-      ap (λ (o : List ℕ). set o (count + letters_place) t.byte) f.written
-      ∙ over_more before f.bytes t.byte count f.counted
+      ap (λ (o : List ℕ). set o (count + letters_place) b) f.written
+      ∙ over_more before f.bytes b count f.counted
       (omega (arith, so_far_room a f, ap length f.written, length_over before f.bytes (omega (arith, so_far_room a f, f.counted, a.room))))
 
-  more_counted : count + 1 ≡ length (f.bytes ++ (t.byte ∷ []))
-  more_counted = omega (arith, f.counted, length-append f.bytes (t.byte ∷ []))
+  more_counted : count + 1 ≡ length (f.bytes ++ (b ∷ []))
+  more_counted = omega (arith, f.counted, length-append f.bytes (b ∷ []))
 
-  pub so_far_more : n.sign ≡ Sign.Comma → SoFar text before (set out (count + letters_place) t.byte) n.end (count + 1) us l
-  so_far_more is = comma sees sees' f.bytes f.letters f.here f.all put more_counted is
+  pub so_far_more : {end : ℕ} → SeesSign text mid end Sign.Comma → SoFar text before (set out (count + letters_place) b) end (count + 1) us l
+  so_far_more sees = comma reads f.bytes f.letters f.here f.all put more_counted sees
 
-  pub so_far_all : OneOf (sign_tags (17 ∷ [])) (sign_tag n.sign) → Listing text before (set out (count + letters_place) t.byte) us l (record { at = n.end; count = count + 1 })
-  so_far_all other = last sees sees' f.bytes f.letters f.here f.all put more_counted other
+  pub so_far_all : {end : ℕ} → NotSign text mid Sign.Comma → GoesPast text mid 1 end → Listing text before (set out (count + letters_place) b) end us l (count + 1)
+  so_far_all other pass = last reads f.bytes f.letters f.here f.all put more_counted other pass
 
 -- the truth that is told
-pub true_told : {text : List ℕ} {place from q v : ℕ} {ts us : Ts} {d : Bool} {t : Seen}
-    → GoesPast text place 1 from
-    → Sees text from t
-    → t.word ≡ Word.True
-    → Here text place ts
-    → IsDecrement ((w "decr_on_zero" at q) ∷ ts) d v us
-    → true ≡ d
-true_told pass sees is here is_true = refl
-true_told pass sees is here is_false =
-    let r = pass.behind _ here (omega arith) in
-    let tags : ◌≡◌ {A = ℕ} 2 3 = ap word_tag (sym is ∙ seen_word Word.False (sees.stands _ r.here) refl) in
-    absurd (omega arith)
+record TruthStands (text : List ℕ) (place : ℕ) : Type 0 where
+  pub bytes : List ℕ
+  pub at₀ : ℕ
+  pub us : Ts
+  pub here : Here text place ((word bytes at at₀) ∷ us)
 
-pub false_told : {text : List ℕ} {place from q v : ℕ} {ts us : Ts} {d : Bool} {t : Seen}
-    → GoesPast text place 1 from
-    → Sees text from t
-    → OneOf (word_tags (2 ∷ [])) (word_tag t.word)
-    → Here text place ts
-    → IsDecrement ((w "decr_on_zero" at q) ∷ ts) d v us
-    → false ≡ d
-false_told {t = t} pass sees other here is_true =
-    let r = pass.behind _ here (omega arith) in
-    absurd (none_of (word_tags (2 ∷ [])) (word_tag t.word) 2 tt other (ap word_tag (seen_word Word.True (sees.stands _ r.here) refl)))
-false_told pass sees other here is_false = refl
+truth_stands : {text : List ℕ} {place : ℕ} {ts us : Ts} {d : Bool} → TruthAt ts d us → Here text place ts → TruthStands text place
+truth_stands yes_at here = record { bytes = _; at₀ = _; us = _; here = here }
+truth_stands no_at here = record { bytes = _; at₀ = _; us = _; here = here }
 
--- `decr_on_zero` and what stands behind it
+pub truth_at_word : {k : Cursor} → AtTruth k → AtWord k
+truth_at_word a =
+    let w = truth_stands a.is a.here in
+    record { bytes = w.bytes; place = w.at₀; us = w.us; here = w.here }
+
+module _ {text : List ℕ} {place mid end : ℕ} {x : Word} (sees : SeesWord text place mid x) (pass : GoesPast text mid 1 end) where
+  pub truth_behind : {ts us : Ts} {d : Bool} → Here text place ts → TruthAt ts d us → Here text end us
+  truth_behind here yes_at = (pass.behind _ (seen_behind (sees.sees.stands _ here)).here (omega arith)).here
+  truth_behind here no_at = (pass.behind _ (seen_behind (sees.sees.stands _ here)).here (omega arith)).here
+
+  pub told_is : {ts us : Ts} {d told : Bool} → told ≡ sameb the_type x Word.True → Here text place ts → TruthAt ts d us → told ≡ d
+  told_is asked here yes_at =
+      asked ∙ ap (λ (y : Word). sameb the_type y Word.True) (seen_word Word.True (sees.sees.stands _ here) refl)
+  told_is asked here no_at =
+      asked ∙ ap (λ (y : Word). sameb the_type y Word.True) (seen_word Word.False (sees.sees.stands _ here) refl)
+
+-- `decr_on_zero`, two tokens before its truth
 record DecrementOf (ts us : Ts) (d : Bool) : Type 0 where
   pub place : ℕ
+  pub tail : Ts
+  pub is : ts ≡ (w "decr_on_zero" at place) ∷ tail
   pub rest : Ts
-  pub is : ts ≡ (w "decr_on_zero" at place) ∷ rest
-  pub truth : ℕ
-  pub derived : IsDecrement ((w "decr_on_zero" at place) ∷ rest) d truth us
-  pub long : 3 ≤ length rest
-  pub ends : drop 3 rest ≡ us
+  pub long : 2 ≤ length ts
+  pub behind : drop 2 ts ≡ rest
+  pub truth : TruthAt rest d us
 
 decrement_of : {v : ℕ} {ts us : Ts} {d : Bool} → IsDecrement ts d v us → DecrementOf ts us d
-decrement_of is_true = record { place = _; rest = _; is = refl; truth = _; derived = is_true; long = omega arith; ends = refl }
-decrement_of is_false = record { place = _; rest = _; is = refl; truth = _; derived = is_false; long = omega arith; ends = refl }
+decrement_of is_true =
+    record { place = _; tail = _; is = refl; rest = _; long = omega arith; behind = refl; truth = yes_at }
+decrement_of is_false =
+    record { place = _; tail = _; is = refl; rest = _; long = omega arith; behind = refl; truth = no_at }
 
 -- the letters stand from a place on, and `decr_on_zero` behind them
 pub record LettersFirst (text out : List ℕ) (from : ℕ) (us : Ts) (l : List Letter) (d : Bool) : Type 0 where
   pub ts : Ts
   pub after : Ts
-  pub place : ℕ
   pub rest : Ts
   pub stand : LettersAt text from out ts after l
-  pub long : 2 ≤ length after
-  pub is : drop 2 after ≡ rest
-  pub truth : ℕ
-  pub derived : IsDecrement ((w "decr_on_zero" at place) ∷ rest) d truth us
-  pub longer : 3 ≤ length rest
-  pub ends : drop 3 rest ≡ us
+  pub long : 3 ≤ length after
+  pub is : drop 3 after ≡ rest
+  pub truth : TruthAt rest d us
 
 -- the other way round
-pub record LettersLast (text out : List ℕ) (at₀ from : ℕ) (us : Ts) (l : List Letter) (d : Bool) : Type 0 where
-  pub ts : Ts
-  pub place : ℕ
-  pub rest : Ts
-  pub after : Ts
+pub record LettersLast (text out : List ℕ) (from : ℕ) (us : Ts) (l : List Letter) (d : Bool) : Type 0 where
+  pub told : Ts
   pub middle : Ts
-  pub here : Here text at₀ rest
-  pub truth : ℕ
-  pub derived : IsDecrement ((w "decr_on_zero" at place) ∷ rest) d truth middle
-  pub stand : LettersAt text from out ts after l
-  pub long : 1 ≤ length after
+  pub inner : Ts
+  pub after : Ts
+  pub end : ℕ
+  pub here : Here text from told
+  pub truth : TruthAt told d middle
+  pub long : 3 ≤ length middle
+  pub opens : drop 3 middle ≡ inner
+  pub letters : IsLetters inner l ((s "]" at end) ∷ after)
+  pub few : length l ≤ 16
+  pub room : image_room ≤ length out
+  pub last : 1 ≤ length after
   pub ends : drop 1 after ≡ us
 
-module _ {text out : List ℕ} {from : ℕ} {t : Seen} (sees : Sees text 0 t) where
-  first : {v : ℕ} {ts us : Ts} {f : Order} {l : List Letter} {d : Bool}
+module _ {text out : List ℕ} {start : ℕ} where
+  first : {v mid from : ℕ} {ts us : Ts} {f : Order} {l : List Letter} {d : Bool}
       → IsSettings ts f l d v us
-      → Here text 0 ts
+      → Here text start ts
       → length l ≤ 16
       → image_room ≤ length out
-      → t.word ≡ Word.Alphabet
-      → GoesPast text t.end 2 from
+      → SeesWord text start mid Word.Alphabet
+      → GoesPast text mid 2 from
       → LettersFirst text out from us l d
-  first (alphabet_first (alphabet {u = u} {v = v} {ts = inner} {us = after} letters) decrement) here few room is pass =
+  first (alphabet_first (alphabet {u = u} {v = v} {ts = inner} {us = after} letters) decrement) here few room sees pass =
       let o = decrement_of decrement in
-      let r = pass.behind _ (seen_behind (sees.stands _ here)).here (omega arith) in
+      let r = pass.behind _ (seen_behind (sees.sees.stands _ here)).here (omega arith) in
       record {
         ts = inner;
         after = (s ";" at v) ∷ after;
-        place = o.place;
         rest = o.rest;
         stand = record { end = u; here = r.here; letters = letters; few = few; room = room };
-        long = omega (arith, ap length o.is);
-        is = ap (drop 1) o.is;
-        truth = _;
-        derived = o.derived;
-        longer = o.long;
-        ends = o.ends;
+        long = omega (arith, o.long);
+        is = o.behind;
+        truth = o.truth;
       }
-  first (decrement_first decrement letters) here few room is pass =
+  first (decrement_first decrement letters) here few room sees pass =
       let o = decrement_of decrement in
-      let tags : ◌≡◌ {A = ℕ} 0 1 = ap word_tag (sym is ∙ seen_word Word.DecrOnZero (sees.stands _ (subst (Here text 0) o.is here)) refl) in
-      absurd (omega arith)
+      let same : Word.Alphabet ≡ Word.DecrOnZero = seen_word Word.DecrOnZero (sees.sees.stands _ (subst (Here text start) o.is here)) refl in
+      absurd cc
 
-  second : {v : ℕ} {ts us : Ts} {f : Order} {l : List Letter} {d : Bool}
+  second : {v from : ℕ} {ts us : Ts} {f : Order} {l : List Letter} {d : Bool}
       → IsSettings ts f l d v us
-      → Here text 0 ts
+      → Here text start ts
       → length l ≤ 16
       → image_room ≤ length out
-      → OneOf (word_tags (0 ∷ [])) (word_tag t.word)
-      → GoesPast text t.end 6 from
-      → LettersLast text out t.end from us l d
+      → NotWord text start Word.Alphabet
+      → GoesPast text start 2 from
+      → LettersLast text out from us l d
   second (alphabet_first (alphabet letters) decrement) here few room other pass =
-      absurd (none_of (word_tags (0 ∷ [])) (word_tag t.word) 0 tt other (ap word_tag (seen_word Word.Alphabet (sees.stands _ here) refl)))
-  second (decrement_first decrement (alphabet {u = u} {v = v} {ts = inner} {us = after} letters)) here few room other pass =
+      absurd (other.other here refl)
+  second {from = from} (decrement_first decrement (alphabet {u = u} {v = v} {ts = inner} {us = after} letters)) here few room other pass =
       let o = decrement_of decrement in
-      let behind = (seen_behind (sees.stands _ (subst (Here text 0) o.is here))).here in
-      let ends : drop 6 o.rest ≡ inner = sym (drop-drop 3 3 o.rest) ∙ ap (drop 3) o.ends in
-      let r = pass.behind _ behind (omega (arith, length-drop 3 o.rest, ap length o.ends)) in
       record {
-        ts = inner;
-        place = o.place;
-        rest = o.rest;
-        after = (s ";" at v) ∷ after;
+        told = o.rest;
         middle = _;
-        here = behind;
-        truth = _;
-        derived = o.derived;
-        stand = record { end = u; here = subst (Here text from) ends r.here; letters = letters; few = few; room = room };
+        inner = inner;
+        after = (s ";" at v) ∷ after;
+        end = u;
+        here = subst (Here text from) o.behind (pass.behind _ here o.long).here;
+        truth = o.truth;
         long = omega arith;
+        opens = refl;
+        letters = letters;
+        few = few;
+        room = room;
+        last = omega arith;
         ends = refl;
       }
 
-  pub letters_first : {ts us : Ts} {l : List Letter} {d : Bool} → t.word ≡ Word.Alphabet → GoesPast text t.end 2 from → SettingsAt text out ts us l d → LettersFirst text out from us l d
-  letters_first is pass a = first a.settings a.here a.few a.room is pass
+  pub letters_first : {mid from : ℕ} {ts us : Ts} {l : List Letter} {d : Bool}
+      → SeesWord text start mid Word.Alphabet
+      → GoesPast text mid 2 from
+      → SettingsAt text start out ts us l d
+      → LettersFirst text out from us l d
+  letters_first sees pass a = first a.settings a.here a.few a.room sees pass
 
-  pub letters_last : {ts us : Ts} {l : List Letter} {d : Bool}
-      → OneOf (word_tags (0 ∷ [])) (word_tag t.word)
-      → GoesPast text t.end 6 from
-      → SettingsAt text out ts us l d
-      → LettersLast text out t.end from us l d
+  pub letters_last : {from : ℕ} {ts us : Ts} {l : List Letter} {d : Bool}
+      → NotWord text start Word.Alphabet
+      → GoesPast text start 2 from
+      → SettingsAt text start out ts us l d
+      → LettersLast text out from us l d
   letters_last other pass a = second a.settings a.here a.few a.room other pass
 
--- both settings are read
-module _ {text before after : List ℕ} {from : ℕ} {us : Ts} {l : List Letter} {d : Bool} {listed : Listed} (lists : Lists text from before after listed) where
-  pub settled_first : {behind end : ℕ} {decr_on_zero : Bool}
-      → LettersFirst text before from us l d
-      → GoesPast text listed.at 2 behind
-      → GoesPast text behind 3 end
-      → Tells text behind decr_on_zero
-      → Settling text before after us l d (record { at = end; count = listed.count; decr_on_zero = decr_on_zero })
-  settled_first {behind} {end} f pass pass' tells =
-      let listing = lists.lists f.stand in
-      let here = subst (Here text behind) f.is (pass.behind _ listing.here f.long).here in
-      record {
-        here = subst (Here text end) f.ends (pass'.behind _ here f.longer).here;
-        bytes = listing.bytes;
-        count = listing.count;
-        decr_on_zero = tells.tells here f.derived;
-      }
+-- what a function goes past, sees, lists and tells, in the text that it goes over
+pub lists_in : {k r : Cursor} {text before after : List ℕ} {many : ℕ} {ts us : Ts} {l : List Letter}
+    → k.text.now ≡ text
+    → Lists k r before after many
+    → LettersAt text k.at before ts us l
+    → Listing text before after r.at us l many
+lists_in {k} {r} {before = before} {after = after} {many = many} {ts = ts} {us = us} {l = l} same lists =
+    subst (λ (t : List ℕ). LettersAt t k.at before ts us l → Listing t before after r.at us l many) same lists.lists
 
-  pub settled_last : {at₀ end : ℕ} {decr_on_zero : Bool}
-      → LettersLast text before at₀ from us l d
-      → GoesPast text listed.at 1 end
-      → Tells text at₀ decr_on_zero
-      → Settling text before after us l d (record { at = end; count = listed.count; decr_on_zero = decr_on_zero })
-  settled_last {end = end} f pass tells =
-      let listing = lists.lists f.stand in
-      record {
-        here = subst (Here text end) f.ends (pass.behind _ listing.here f.long).here;
-        bytes = listing.bytes;
-        count = listing.count;
-        decr_on_zero = tells.tells f.here f.derived;
-      }
+pub tells_in : {k r : Cursor} {text : List ℕ} {told : Bool} {ts us : Ts} {d : Bool}
+    → k.text.now ≡ text
+    → Tells k r told
+    → Here text k.at ts
+    → TruthAt ts d us
+    → (told ≡ d) × Here text r.at us
+tells_in {k} {r} {told = told} {ts = ts} {us = us} {d = d} same tells =
+    subst (λ (t : List ℕ). Here t k.at ts → TruthAt ts d us → (told ≡ d) × Here t r.at us) same tells.tells
+
+pub truth_in : {k : Cursor} {text : List ℕ} {ts us : Ts} {d : Bool} → k.text.now ≡ text → Here text k.at ts → TruthAt ts d us → AtTruth k
+truth_in {k} {ts = ts} same here is =
+    record { ts = _; us = _; d = _; here = subst (λ (t : List ℕ). Here t k.at ts) (sym same) here; is = is }
+
+pub letters_in : {k : Cursor} {text before : List ℕ} {ts us : Ts} {l : List Letter} → k.text.now ≡ text → LettersAt text k.at before ts us l → Letters k before
+letters_in {k} {before = before} {ts = ts} {us = us} {l = l} same stand =
+    record { ts = _; us = _; l = _; stand = subst (λ (t : List ℕ). LettersAt t k.at before ts us l) (sym same) stand }
+
+-- both settings are read: the letters and then the truth
+module _ {text before : List ℕ} {us : Ts} {l : List Letter} {d : Bool} where
+  module _ {from mid behind : ℕ} {after : List ℕ} {many : ℕ} (f : LettersFirst text before from us l d)
+      (listing : Listing text before after mid f.after l many) (pass : GoesPast text mid 3 behind) where
+    pub truth_first : Here text behind f.rest
+    truth_first = subst (Here text behind) f.is (pass.behind _ listing.here f.long).here
+
+    pub settled_first : {end : ℕ} {told : Bool}
+        → (told ≡ d) × Here text end us
+        → Settling text before after end us l d (record { count = many; decr_on_zero = told })
+    settled_first tells =
+        record { here = tells.1; bytes = listing.bytes; count = listing.count; decr_on_zero = tells.0 }
+
+  -- or the truth and then the letters
+  module _ {from : ℕ} (f : LettersLast text before from us l d) where
+    pub letters_then : {mid behind : ℕ} → Here text mid f.middle → GoesPast text mid 3 behind → LettersAt text behind before f.inner f.after l
+    letters_then {behind = behind} here pass =
+        record {
+          end = f.end;
+          here = subst (Here text behind) f.opens (pass.behind _ here f.long).here;
+          letters = f.letters;
+          few = f.few;
+          room = f.room;
+        }
+
+    pub settled_last : {after : List ℕ} {mid end many : ℕ} {told : Bool}
+        → told ≡ d
+        → Listing text before after mid f.after l many
+        → GoesPast text mid 1 end
+        → Settling text before after end us l d (record { count = many; decr_on_zero = told })
+    settled_last {end = end} is listing pass =
+        record {
+          here = subst (Here text end) f.ends (pass.behind _ listing.here f.last).here;
+          bytes = listing.bytes;
+          count = listing.count;
+          decr_on_zero = is;
+        }
 
 -- a program: its settings, five tokens more, and the statements of its block
 record Opening (ts : Ts) (p : Program) : Type 0 where
@@ -377,7 +428,7 @@ module _ {text before : List ℕ} {states rows : ℕ} {p : Program} (fits : Fits
   few : length (letter_bytes p.alphabet) ≤ 16
   few = (program_within p fits.reads.faultless).few
 
-  settings_at : SettingsAt text before fits.reads.tokens opens.front p.alphabet p.decr_on_zero
+  settings_at : SettingsAt text 0 before fits.reads.tokens opens.front p.alphabet p.decr_on_zero
   settings_at =
       record {
         here = record { ending = _; tokens = fits.reads.of_text };
@@ -388,12 +439,20 @@ module _ {text before : List ℕ} {states rows : ℕ} {p : Program} (fits : Fits
         room = fits.room;
       }
 
-  pub fits_settings : Settings text before
-  fits_settings = record { ts = _; us = _; l = _; d = _; stand = settings_at }
+  pub fits_settings : {k : Cursor} → k.text.now ≡ text → k.at ≡ 0 → Settings k before
+  fits_settings {k} same zero =
+      record {
+        ts = _;
+        us = _;
+        l = _;
+        d = _;
+        stand = subst₂ (λ (t : List ℕ) (n : ℕ). SettingsAt t n before fits.reads.tokens opens.front p.alphabet p.decr_on_zero) (sym same) (sym zero) settings_at;
+      }
 
-  module _ {middle : List ℕ} {settled : Settled} (settles : Settles text before middle settled) where
-    settling : Settling text before middle opens.front p.alphabet p.decr_on_zero settled
-    settling = settles.settles settings_at
+  module _ {middle : List ℕ} {k r : Cursor} {settled : Settled} (same : k.text.now ≡ text) (zero : k.at ≡ 0) (settles : Settles k r before middle settled) where
+    settling : Settling text before middle r.at opens.front p.alphabet p.decr_on_zero settled
+    settling =
+        subst₂ (λ (t : List ℕ) (n : ℕ). SettingsAt t n before fits.reads.tokens opens.front p.alphabet p.decr_on_zero → Settling t before middle r.at opens.front p.alphabet p.decr_on_zero settled) same zero settles.settles settings_at
 
     pub fits_header : (settled.count ≤ 16) × (states ≤ 128) × (rows ≤ 1024) × (image_room ≤ length middle)
     fits_header = (
@@ -404,12 +463,16 @@ module _ {text before : List ℕ} {states rows : ℕ} {p : Program} (fits : Fits
     )
 
     -- the header is written, and the block's statements are next
-    pub fits_beginning : {after : List ℕ} {end : ℕ}
-        → Heads middle after settled.count settled.decr_on_zero states rows
-        → GoesPast text settled.at 5 end
-        → Beginning text before after states rows p (record { at = end; state = 0; next = 1; row = rows_place settled.count })
+    pub fits_beginning : {e : Emitter}
+        → e.cursor.text.now ≡ text
+        → GoesPast text r.at 5 e.cursor.at
+        → Heads middle e.out.now settled.count settled.decr_on_zero states rows
+        → e.state ≡ 0
+        → e.next ≡ 1
+        → e.row ≡ rows_place settled.count
+        → Beginning text before states rows p e
     unfolding program_part construct
-    fits_beginning {after} {end} heads pass =
+    fits_beginning {e} text-is pass heads state takes row =
         let alphabet = letter_bytes p.alphabet in
         let count : settled.count ≡ length alphabet = settling.count ∙ sym (length-letter_bytes p.alphabet) in
         let holds = heads.heads before alphabet settling.bytes count in
@@ -417,16 +480,18 @@ module _ {text before : List ℕ} {states rows : ℕ} {p : Program} (fits : Fits
           ts = opens.rest;
           doing = record {
             stands = record {
-              here = subst (Here text end) opens.is (pass.behind _ settling.here opens.long).here;
+              here =
+                  subst (λ (t : List ℕ). Here t e.cursor.at opens.rest) (sym text-is)
+                  (subst (Here text e.cursor.at) opens.is (pass.behind _ settling.here opens.long).here);
               filled = record {
                 holds =
-                    subst (λ (decr_on_zero : Bool). Holds (record { old = before; alphabet = alphabet; decr_on_zero = decr_on_zero; states = states; count = rows }) [] [] after)
+                    subst (λ (decr_on_zero : Bool). Holds (record { old = before; alphabet = alphabet; decr_on_zero = decr_on_zero; states = states; count = rows }) [] [] e.out.now)
                     settling.decr_on_zero
                     holds;
-                here = omega (arith, count);
+                here = omega (arith, count, row);
               };
-              state = refl;
-              takes = refl;
+              state = state;
+              takes = takes;
               taken = omega arith;
             };
             is = the_rest opens.body (program_within p fits.reads.faultless).body;
@@ -436,13 +501,14 @@ module _ {text before : List ℕ} {states rows : ℕ} {p : Program} (fits : Fits
         }
 
 -- when that is emitted too, the buffer begins with the image
-pub whole_image : {text before middle after : List ℕ} {states rows : ℕ} {p : Program} {place r : Place}
+pub whole_image : {text before after : List ℕ} {states rows : ℕ} {p : Program} {e r : Emitter}
     → Fits text before states rows p
-    → Beginning text before middle states rows p place
-    → Emits RestTask text middle after place r
+    → Beginning text before states rows p e
+    → Emits RestTask e r
+    → after ≡ r.out.now
     → Image before after p r.row
 unfolding construct
-whole_image {before = before} {states = states} {rows = rows} {p = p} {r = r} fits b emits =
+whole_image {before = before} {states = states} {rows = rows} {p = p} {r = r} fits b emits last =
     let h = sheet_of before states rows p in
     let part = program_part p in
     let filled = (emits.emits b.doing).stands.filled in
@@ -458,7 +524,8 @@ whole_image {before = before} {states = states} {rows = rows} {p = p} {r = r} fi
     in
     record {
       written =
-          filled.holds.bytes
+          last
+          ∙ filled.holds.bytes
           ∙ ap (λ (l : List ℕ). l ++ drop (row_place h part.rows) before) same
           ∙ ap (λ (n : ℕ). encode (construct p) ++ drop n before) (sym filled.here);
       long = filled.here ∙ sym (length-written h part.accepting part.rows) ∙ ap length same;

@@ -6,8 +6,6 @@ use mathlib.Core.Bool.{not}
 use mathlib.Core.List.{List, [], ◌∷◌, ◌++◌, append-nil}
 use lib.ListN.{length}
 use lib.Dec.{T, eqb}
-use mir.Val.{has_key}
-use types.Run.{OneOf}
 use Rattle.text.specs.Token.{Token, word, w, s}
 use Rattle.text.specs.Tokens.{◌at◌}
 use Rattle.text.specs.First.{IsWord}
@@ -21,16 +19,34 @@ use Rattle.rule.proofs.Invert.{Stop, stops, statement_accept, statement_reject, 
 use Rattle.rule.specs.Inside.Within.{StatementsWithin}
 use Rattle.construction.specs.Construction.{Part, and_then, statement_part, statements_part}
 use Rattle.compiler.specs.Inside.Writing.{Sheet, Holds, Filled, Marks}
-use Rattle.compiler.specs.Inside.Seeing.{Here, SeenAs, Sees}
-use Rattle.compiler.specs.Inside.Emission.{At, Doing, Emitted, rows_part, Follows, StatementTask, a_statement, HeadedTask, headed, Stops, RestTask, the_rest}
-use Rattle.compiler.specs.declared.Place.{Place}
-use Rattle.compiler.specs.declared.see.Seen.{Seen}
+use Rattle.compiler.specs.Inside.Seeing.{Here, SeenAs, SeesWord, SeesSign, NotSign, GoesPast, AtWord}
+use Rattle.compiler.specs.Inside.Place.{Place, place_of}
+use Rattle.compiler.specs.Inside.Emission.{At, Doing, Ready, Emits, Emitted, rows_part, Follows, StatementTask, a_statement, HeadedTask, headed, Stops, RestTask, the_rest}
+use Rattle.compiler.specs.declared.Emitter.{Emitter}
+use Rattle.compiler.specs.declared.see.Cursor.{Cursor}
 use Rattle.construction.proofs.Counts.{statements_next}
-use Rattle.compiler.proofs.Tags.{word_tag, sign_tag, word_tags, sign_tags, none_of}
-use Rattle.compiler.proofs.Seeing.{here_some, seen_word, seen_sign, SignAt, sign_at}
-use Rattle.compiler.proofs.Emission.{at_moved, fits_first, fits_then, emitted_as}
+use Rattle.std.specs.Borrow.{MutBor}
+use Rattle.compiler.proofs.Tags.{word_tag}
+use Rattle.compiler.proofs.Seeing.{here_some, seen_word, SignAt, sign_at}
+use Rattle.compiler.proofs.Emission.{ready_in, emits_in, at_moved, fits_first, fits_then, emitted_as}
 use Rattle.compiler.proofs.Stepping.{headed_of}
 use Rattle.compiler.proofs.Nesting.{nothing_emitted, emitted_then, HeadAt, head_at}
+
+-- a state is taken, past one token
+pub record Stopping (text : List ℕ) (place r : Place) : Type 0 where
+  pub passes : GoesPast text place.at 1 r.at
+  pub state : r.state ≡ place.next
+  pub takes : r.next ≡ place.next + 1
+  pub row : r.row ≡ place.row
+
+pub stopping : {e r : Emitter} {text : List ℕ} → e.cursor.text.now ≡ text → Stops e r → Stopping text (place_of e) (place_of r)
+stopping {e} {r} same st =
+    record {
+      passes = subst (λ (t : List ℕ). GoesPast t e.cursor.at 1 r.cursor.at) same st.passes;
+      state = st.state;
+      takes = st.takes;
+      row = st.row;
+    }
 
 -- accept and reject take a state
 abbrev stop_part : List ℕ → ℕ → Part
@@ -40,7 +56,7 @@ module _ {text before : List ℕ} {place : Place} {h : Sheet} {accepting : List 
     (stands : At text before place h accepting rows p next ((s ";" at v) ∷ us)) where
   stopped : {after : List ℕ} {r : Place} (states : List ℕ)
       → Filled h (accepting ++ states) rows after place.row
-      → Stops text place r
+      → Stopping text place r
       → Emitted text after r h accepting rows us (stop_part states next)
   stopped {after} {r} states filled st =
       record {
@@ -53,7 +69,7 @@ module _ {text before : List ℕ} {place : Place} {h : Sheet} {accepting : List 
         };
       }
 
-  stop_on : {r : Place} → Stops text place r → place.at ≤ r.at
+  stop_on : {r : Place} → Stopping text place r → place.at ≤ r.at
   stop_on st = omega (arith, (st.passes.behind _ stands.here (omega arith)).onward)
 
 -- `accept ;` and `reject ;` behind their word
@@ -81,7 +97,7 @@ module _ {text out : List ℕ} {place : Place} {h : Sheet} {accepting : List ℕ
     pub accept_few : place.next ≤ 128
     accept_few = omega (arith, d.stands.takes, ap (λ (x : Part). x.next) accept_of.is, d.states)
 
-    pub accept_emitted : {after : List ℕ} {r : Place} → Marks out after place.state → Stops text place r → Emitted text after r h accepting rows us part
+    pub accept_emitted : {after : List ℕ} {r : Place} → Marks out after place.state → Stopping text place r → Emitted text after r h accepting rows us part
     accept_emitted {after} marks st =
         emitted_as accept_of.is
         (stopped accept_stands (p ∷ [])
@@ -91,7 +107,7 @@ module _ {text out : List ℕ} {place : Place} {h : Sheet} {accepting : List ℕ
         })
         st)
 
-    pub accept_onward : {r : Place} → Stops text place r → place.at ≤ r.at
+    pub accept_onward : {r : Place} → Stopping text place r → place.at ≤ r.at
     accept_onward st = stop_on accept_stands st
 
   module _ (d : Doing (HeadedTask (w "reject")) text out place h accepting rows p next ts us part) where
@@ -105,105 +121,162 @@ module _ {text out : List ℕ} {place : Place} {h : Sheet} {accepting : List ℕ
     pub reject_few : place.next ≤ 128
     reject_few = omega (arith, d.stands.takes, ap (λ (x : Part). x.next) reject_of.is, d.states)
 
-    pub reject_emitted : {r : Place} → Stops text place r → Emitted text out r h accepting rows us part
+    pub reject_emitted : {r : Place} → Stopping text place r → Emitted text out r h accepting rows us part
     reject_emitted st =
         emitted_as reject_of.is
         (stopped reject_stands []
         (subst (λ (a : List ℕ). Filled h a rows out place.row) (sym (append-nil accepting)) d.stands.filled)
         st)
 
-    pub reject_onward : {r : Place} → Stops text place r → place.at ≤ r.at
+    pub reject_onward : {r : Place} → Stopping text place r → place.at ≤ r.at
     reject_onward st = stop_on reject_stands st
 
 -- a statement by its first word
-module _ {text out : List ℕ} {place : Place} {t : Seen} (sees : Sees text place.at t)
-    {h : Sheet} {accepting : List ℕ} {rows : List Row} {p next : ℕ} {ts us : Ts} {part : Part}
-    (d : Doing StatementTask text out place h accepting rows p next ts us part) where
-  abbrev word_seen : SeenAs text place.at ts t.word t.sign t.byte t.start t.end
-  word_seen = sees.stands ts d.stands.here
+pub headed_doing : {text out : List ℕ} {place : Place} {h : Sheet} {accepting : List ℕ} {rows : List Row} {p next : ℕ} {ts us : Ts} {part : Part} {head : Token} {end : ℕ}
+    → (a : HeadAt text place.at end head ts)
+    → Doing StatementTask text out place h accepting rows p next ts us part
+    → Doing (HeadedTask head) text out (record { at = end; state = place.state; next = place.next; row = place.row }) h accepting rows p next a.rest us part
+headed_doing {h = h} {p = p} {next = next} {us = us} {part = part} {end = end} a d =
+    record {
+      stands = at_moved end d.stands a.behind.here;
+      is = headed (subst (λ (xs : Ts). StatementTask h.alphabet p next xs us part) a.is d.is);
+      states = d.states;
+      fits = d.fits;
+    }
 
-  abbrev behind_word : Place
-  behind_word = record { at = t.end; state = place.state; next = place.next; row = place.row }
+-- whatever statement an emitter stands at, this is its head
+pub record HeadedBy (e : Emitter) (end : ℕ) (head : Token) : Type 0 where
+  pub by : {h : Sheet} {accepting : List ℕ} {rows : List Row} {p next : ℕ} {ts us : Ts} {part : Part}
+      → Doing StatementTask e.cursor.text.now e.out.now (place_of e) h accepting rows p next ts us part
+      → HeadAt e.cursor.text.now e.cursor.at end head ts
 
-  pub headed_doing : {head : Token} (a : HeadAt text place.at t.end head ts) → Doing (HeadedTask head) text out behind_word h accepting rows p next a.rest us part
-  headed_doing a =
-      record {
-        stands = at_moved t.end d.stands a.behind.here;
-        is = headed (subst (λ (xs : Ts). StatementTask h.alphabet p next xs us part) a.is d.is);
-        states = d.states;
-        fits = d.fits;
-      }
+-- the word that is seen
+pub named : {e : Emitter} {end : ℕ} {x : Word} (y : Word) (l : List ℕ)
+    → ((bytes : List ℕ) → IsWord y bytes → bytes ≡ l)
+    → T (not (eqb (word_tag y) 20))
+    → SeesWord e.cursor.text.now e.cursor.at end x
+    → x ≡ y
+    → HeadedBy e end (word l)
+named y l spelt counts seen is =
+    record { by = λ d. head_at y l spelt counts (seen.sees.stands _ d.stands.here) is }
 
-  -- the word that is seen
-  pub named : (y : Word) (l : List ℕ) → ((bytes : List ℕ) → IsWord y bytes → bytes ≡ l) → T (not (eqb (word_tag y) 20)) → t.word ≡ y → HeadAt text place.at t.end (word l) ts
-  named y l spelt counts is = head_at y l spelt counts word_seen is
-
--- the words that the other arms name
-abbrev pub named_words : List ℕ
-named_words = 6 ∷ 7 ∷ 10 ∷ 11 ∷ 12 ∷ 13 ∷ 15 ∷ []
-
-not_named : {text : List ℕ} {from k e b q : ℕ} {l : List ℕ} {us : Ts} {x : Word} {g : Sign} (y : Word)
-    → IsWord y l
-    → T (not (has_key (word_tags named_words) (word_tag y)))
-    → SeenAs text from ((word l at q) ∷ us) x g b k e
-    → OneOf (word_tags named_words) (word_tag x)
-    → ⊥
-not_named {x = x} y is t seen other = none_of (word_tags named_words) (word_tag x) (word_tag y) t other (ap word_tag (seen_word y seen is))
+-- or none of those that have a name
+pub record Unnamed (x : Word) : Type 0 where
+  pub no_move : ¬ (x ≡ Word.Move)
+  pub no_goto : ¬ (x ≡ Word.Goto)
+  pub no_c : ¬ (x ≡ Word.C)
+  pub no_accept : ¬ (x ≡ Word.Accept)
+  pub no_reject : ¬ (x ≡ Word.Reject)
+  pub no_if : ¬ (x ≡ Word.If)
+  pub no_while : ¬ (x ≡ Word.While)
 
 branch_left : {text : List ℕ} {from k e b : ℕ} {x : Word} {g : Sign} {ts us : Ts} {a : Statement}
     → IsStatement ts a us
     → SeenAs text from ts x g b k e
-    → OneOf (word_tags named_words) (word_tag x)
+    → Unnamed x
     → x ≡ Word.Branch
-branch_left (Grammar.plain Grammar.move_by) seen other = absurd (not_named Word.Move refl tt seen other)
-branch_left (Grammar.plain Grammar.move_back) seen other = absurd (not_named Word.Move refl tt seen other)
-branch_left (Grammar.plain Grammar.goto_lend) seen other = absurd (not_named Word.Goto refl tt seen other)
-branch_left (Grammar.plain Grammar.goto_rend) seen other = absurd (not_named Word.Goto refl tt seen other)
-branch_left (Grammar.plain Grammar.increment) seen other = absurd (not_named Word.C refl tt seen other)
-branch_left (Grammar.plain Grammar.decrement) seen other = absurd (not_named Word.C refl tt seen other)
-branch_left (Grammar.plain Grammar.add) seen other = absurd (not_named Word.C refl tt seen other)
-branch_left (Grammar.plain Grammar.subtract) seen other = absurd (not_named Word.C refl tt seen other)
-branch_left Grammar.accept seen other = absurd (not_named Word.Accept refl tt seen other)
-branch_left Grammar.reject seen other = absurd (not_named Word.Reject refl tt seen other)
-branch_left (Grammar.if c b e) seen other = absurd (not_named Word.If refl tt seen other)
-branch_left (Grammar.while c b) seen other = absurd (not_named Word.While refl tt seen other)
-branch_left (Grammar.choose b) seen other = absurd (not_named Word.While refl tt seen other)
+branch_left (Grammar.plain Grammar.move_by) seen other = absurd (other.no_move (seen_word Word.Move seen refl))
+branch_left (Grammar.plain Grammar.move_back) seen other = absurd (other.no_move (seen_word Word.Move seen refl))
+branch_left (Grammar.plain Grammar.goto_lend) seen other = absurd (other.no_goto (seen_word Word.Goto seen refl))
+branch_left (Grammar.plain Grammar.goto_rend) seen other = absurd (other.no_goto (seen_word Word.Goto seen refl))
+branch_left (Grammar.plain Grammar.increment) seen other = absurd (other.no_c (seen_word Word.C seen refl))
+branch_left (Grammar.plain Grammar.decrement) seen other = absurd (other.no_c (seen_word Word.C seen refl))
+branch_left (Grammar.plain Grammar.add) seen other = absurd (other.no_c (seen_word Word.C seen refl))
+branch_left (Grammar.plain Grammar.subtract) seen other = absurd (other.no_c (seen_word Word.C seen refl))
+branch_left Grammar.accept seen other = absurd (other.no_accept (seen_word Word.Accept seen refl))
+branch_left Grammar.reject seen other = absurd (other.no_reject (seen_word Word.Reject seen refl))
+branch_left (Grammar.if c b e) seen other = absurd (other.no_if (seen_word Word.If seen refl))
+branch_left (Grammar.while c b) seen other = absurd (other.no_while (seen_word Word.While seen refl))
+branch_left (Grammar.choose b) seen other = absurd (other.no_while (seen_word Word.While seen refl))
 branch_left (Grammar.branch b a) seen other = seen_word Word.Branch seen refl
 
 task_left : {text : List ℕ} {from k e b : ℕ} {x : Word} {g : Sign} {alphabet : List ℕ} {p next : ℕ} {ts us : Ts} {part : Part}
     → StatementTask alphabet p next ts us part
     → SeenAs text from ts x g b k e
-    → OneOf (word_tags named_words) (word_tag x)
+    → Unnamed x
     → x ≡ Word.Branch
 task_left (a_statement d follows within) seen other = branch_left d seen other
 
 -- what is left is a branch
-pub unnamed : {text out : List ℕ} {place : Place} {t : Seen} (sees : Sees text place.at t)
-    {h : Sheet} {accepting : List ℕ} {rows : List Row} {p next : ℕ} {ts us : Ts} {part : Part}
-    (d : Doing StatementTask text out place h accepting rows p next ts us part)
-    → OneOf (word_tags named_words) (word_tag t.word)
-    → HeadAt text place.at t.end (w "branch") ts
-unnamed sees d other = named sees d Word.Branch _ (λ bytes which. which) tt (task_left d.is (word_seen sees d) other)
+pub unnamed : {e : Emitter} {end : ℕ} {x : Word} → SeesWord e.cursor.text.now e.cursor.at end x → Unnamed x → HeadedBy e end (w "branch")
+unnamed seen other =
+    record {
+      by = λ d.
+          let first = seen.sees.stands _ d.stands.here in
+          head_at Word.Branch _ (λ bytes which. which) tt first (task_left d.is first other);
+    }
 
--- where a statement stands there is text
-statement_some : {text : List ℕ} {from : ℕ} {ts us : Ts} {a : Statement} → IsStatement ts a us → Here text from ts → from < length text
-statement_some (Grammar.plain Grammar.move_by) here = here_some here
-statement_some (Grammar.plain Grammar.move_back) here = here_some here
-statement_some (Grammar.plain Grammar.goto_lend) here = here_some here
-statement_some (Grammar.plain Grammar.goto_rend) here = here_some here
-statement_some (Grammar.plain Grammar.increment) here = here_some here
-statement_some (Grammar.plain Grammar.decrement) here = here_some here
-statement_some (Grammar.plain Grammar.add) here = here_some here
-statement_some (Grammar.plain Grammar.subtract) here = here_some here
-statement_some Grammar.accept here = here_some here
-statement_some Grammar.reject here = here_some here
-statement_some (Grammar.if c b e) here = here_some here
-statement_some (Grammar.while c b) here = here_some here
-statement_some (Grammar.choose b) here = here_some here
-statement_some (Grammar.branch b a) here = here_some here
+-- so it is ready behind that word, and what is emitted there is the statement
+module _ {e : Emitter} (k : Cursor) {head : Token} (text : k.text.now ≡ e.cursor.text.now) (needs : Ready StatementTask e) (a : HeadedBy e k.at head) where
+  pub headed_ready : Ready (HeadedTask head) (record { cursor = k; out = e.out; state = e.state; next = e.next; row = e.row })
+  headed_ready = ready_in text (headed_doing (a.by needs.doing) needs.doing)
 
-pub task_some : {text : List ℕ} {from : ℕ} {alphabet : List ℕ} {p next : ℕ} {ts us : Ts} {part : Part} → StatementTask alphabet p next ts us part → Here text from ts → from < length text
-task_some (a_statement d follows within) here = statement_some d here
+  -- which is further on in the text
+  pub headed_onward : (e.cursor.at < k.at) × (k.at ≤ length e.cursor.text.now)
+  headed_onward = let first = a.by needs.doing in (first.behind.onward, first.behind.within)
+
+  pub headed_emits : {r : Emitter} → Emits (HeadedTask head) (record { cursor = k; out = e.out; state = e.state; next = e.next; row = e.row }) r → Emits StatementTask e r × (e.cursor.at < r.cursor.at)
+  headed_emits whole = (
+    record {
+      emits = λ d. emits_in whole text (headed_doing (a.by d) d);
+      onward = omega (arith, headed_onward, whole.onward);
+      text = whole.text ∙ text;
+      out = whole.out;
+    },
+    omega (arith, headed_onward, whole.onward),
+  )
+
+-- and so a reject, which takes a state
+module _ {e : Emitter} (k : Cursor) (text : k.text.now ≡ e.cursor.text.now) (needs : Ready StatementTask e) (a : HeadedBy e k.at (w "reject")) where
+  pub rejects_few : e.next ≤ 128
+  rejects_few = reject_few (headed_doing (a.by needs.doing) needs.doing)
+
+  pub rejects_emit : {r : Emitter} → Stops (record { cursor = k; out = e.out; state = e.state; next = e.next; row = e.row }) r → Emits StatementTask e r × (e.cursor.at < r.cursor.at)
+  rejects_emit {r} stopping_here =
+      let st = stopping text stopping_here in
+      let later = reject_onward (headed_doing (a.by needs.doing) needs.doing) st in
+      let first = headed_onward k text needs a in (
+        record {
+          emits = λ {h} {accepting} {rows} {p} {next} {ts} {us} {part} d.
+              subst (λ (o : MutBor (List ℕ)). Emitted e.cursor.text.now o.now (place_of r) h accepting rows us part) (sym stopping_here.out)
+              (reject_emitted (headed_doing (a.by d) d) st);
+          onward = omega (arith, first, later);
+          text = stopping_here.text ∙ text;
+          out = ap (λ (o : MutBor (List ℕ)). o.ghost_name) stopping_here.out;
+        },
+        omega (arith, first, later),
+      )
+
+-- where a statement stands there is a word
+record WordStands (text : List ℕ) (from : ℕ) : Type 0 where
+  pub bytes : List ℕ
+  pub place : ℕ
+  pub us : Ts
+  pub here : Here text from ((word bytes at place) ∷ us)
+
+statement_word : {text : List ℕ} {from : ℕ} {ts us : Ts} {a : Statement} → IsStatement ts a us → Here text from ts → WordStands text from
+statement_word (Grammar.plain Grammar.move_by) here = record { bytes = _; place = _; us = _; here = here }
+statement_word (Grammar.plain Grammar.move_back) here = record { bytes = _; place = _; us = _; here = here }
+statement_word (Grammar.plain Grammar.goto_lend) here = record { bytes = _; place = _; us = _; here = here }
+statement_word (Grammar.plain Grammar.goto_rend) here = record { bytes = _; place = _; us = _; here = here }
+statement_word (Grammar.plain Grammar.increment) here = record { bytes = _; place = _; us = _; here = here }
+statement_word (Grammar.plain Grammar.decrement) here = record { bytes = _; place = _; us = _; here = here }
+statement_word (Grammar.plain Grammar.add) here = record { bytes = _; place = _; us = _; here = here }
+statement_word (Grammar.plain Grammar.subtract) here = record { bytes = _; place = _; us = _; here = here }
+statement_word Grammar.accept here = record { bytes = _; place = _; us = _; here = here }
+statement_word Grammar.reject here = record { bytes = _; place = _; us = _; here = here }
+statement_word (Grammar.if c b e) here = record { bytes = _; place = _; us = _; here = here }
+statement_word (Grammar.while c b) here = record { bytes = _; place = _; us = _; here = here }
+statement_word (Grammar.choose b) here = record { bytes = _; place = _; us = _; here = here }
+statement_word (Grammar.branch b a) here = record { bytes = _; place = _; us = _; here = here }
+
+task_word : {text : List ℕ} {from : ℕ} {alphabet : List ℕ} {p next : ℕ} {ts us : Ts} {part : Part} → StatementTask alphabet p next ts us part → Here text from ts → WordStands text from
+task_word (a_statement d follows within) here = statement_word d here
+
+pub statement_at_word : {e : Emitter} → Ready StatementTask e → AtWord e.cursor
+statement_at_word needs =
+    let w = task_word needs.doing.is needs.doing.stands.here in
+    record { bytes = w.bytes; place = w.place; us = w.us; here = w.here }
 
 -- the rest of a block, where its brace stands
 record Ended (p next : ℕ) (ts us : Ts) (part : Part) : Type 0 where
@@ -234,15 +307,14 @@ follows_rest {q} {us} {vs} {b} d =
       no_also = λ p xs e. rest_also (subst (λ (ys : Ts). IsStatements ys b ((s "}" at q) ∷ vs)) e d);
     }
 
-pub statement_then : {text : List ℕ} {from k e b : ℕ} {x : Word} {g : Sign} {alphabet : List ℕ} {p next : ℕ} {ts us : Ts} {part : Part}
+pub statement_then : {text : List ℕ} {from : ℕ} {alphabet : List ℕ} {p next : ℕ} {ts us : Ts} {part : Part}
     → RestTask alphabet p next ts us part
-    → SeenAs text from ts x g b k e
-    → OneOf (sign_tags (14 ∷ [])) (sign_tag g)
+    → Here text from ts
+    → NotSign text from Sign.CloseBrace
     → StatementThen alphabet p next ts us part
 unfolding statements_part StatementsWithin
-statement_then {g = g} (the_rest Grammar.none within) seen other =
-    absurd (none_of (sign_tags (14 ∷ [])) (sign_tag g) 14 tt other (ap sign_tag (seen_sign Sign.CloseBrace seen refl)))
-statement_then {alphabet = alphabet} {p = p} {next = n} (the_rest (Grammar.next {a = a} {b = b} d e) (within, later)) seen other =
+statement_then (the_rest Grammar.none within) here other = absurd (other.other here refl)
+statement_then {alphabet = alphabet} {p = p} {next = n} (the_rest (Grammar.next {a = a} {b = b} d e) (within, later)) here other =
     let first = statement_part alphabet a p n in
     record {
       behind = _;
@@ -254,25 +326,25 @@ statement_then {alphabet = alphabet} {p = p} {next = n} (the_rest (Grammar.next 
       grows = omega (arith, statements_next b alphabet first.exit first.next);
     }
 
-module _ {text out : List ℕ} {place : Place} {t : Seen} (sees : Sees text place.at t)
+module _ {text out : List ℕ} {place : Place}
     {h : Sheet} {accepting : List ℕ} {rows : List Row} {p next : ℕ} {ts us : Ts} {part : Part}
     (d : Doing RestTask text out place h accepting rows p next ts us part) where
-  module _ (is : t.sign ≡ Sign.CloseBrace) where
-    abbrev brace_here : SignAt text place.at t.end Sign.CloseBrace ts
-    brace_here = sign_at Sign.CloseBrace tt (sees.stands ts d.stands.here) is
+  module _ {end : ℕ} (sees : SeesSign text place.at end Sign.CloseBrace) where
+    abbrev brace_here : SignAt text place.at end Sign.CloseBrace ts
+    brace_here = sign_at Sign.CloseBrace tt (sees.sees.stands ts d.stands.here) refl
 
-    pub brace_onward : place.at ≤ t.end
+    pub brace_onward : place.at ≤ end
     brace_onward = omega (arith, brace_here.behind.onward)
 
-    pub brace_emitted : Emitted text out (record { at = t.end; state = place.state; next = place.next; row = place.row }) h accepting rows us part
+    pub brace_emitted : Emitted text out (record { at = end; state = place.state; next = place.next; row = place.row }) h accepting rows us part
     brace_emitted =
         let e = ended (subst (λ (xs : Ts). RestTask h.alphabet p next xs us part) brace_here.is d.is) in
         emitted_as e.is
-        (nothing_emitted (at_moved t.end d.stands (subst (Here text t.end) e.same brace_here.behind.here)))
+        (nothing_emitted (at_moved end d.stands (subst (Here text end) e.same brace_here.behind.here)))
 
-  module _ (other : OneOf (sign_tags (14 ∷ [])) (sign_tag t.sign)) where
+  module _ (other : NotSign text place.at Sign.CloseBrace) where
     abbrev then_here : StatementThen h.alphabet p next ts us part
-    then_here = statement_then d.is (sees.stands ts d.stands.here) other
+    then_here = statement_then d.is d.stands.here other
 
     then_fits : length rows + length (then_here.first.rows ++ then_here.later.rows) ≤ h.count
     unfolding and_then
@@ -307,4 +379,4 @@ module _ {text out : List ℕ} {place : Place} {t : Seen} (sees : Sees text plac
       then_emitted f = emitted_as then_here.is (emitted_then then_here.first then_here.later f)
 
     pub rest_some : place.at < length text
-    rest_some = task_some then_here.statement d.stands.here
+    rest_some = here_some (task_word then_here.statement d.stands.here).here

@@ -6,13 +6,10 @@ use mathlib.Core.Bool.{Bool, true, false, not}
 use mathlib.Core.List.{List, [], ◌∷◌, ◌++◌, append-nil, append_assoc}
 use lib.ListN.{length}
 use lib.Dec.{T, eqb}
-use types.Run.{OneOf, miss}
-use denote.Enum.Declared.{tag_of}
 use Rattle.text.specs.Token.{s}
 use Rattle.text.specs.Token.{sign as signed}
 use Rattle.text.specs.First.{written}
 use Rattle.text.specs.Tokens.{◌at◌}
-use Rattle.text.specs.declared.Word.{Word}
 use Rattle.text.specs.declared.Sign.{Sign}
 use Rattle.table.specs.Table.{Row}
 use Rattle.rule.specs.Tree.{Atom, Condition}
@@ -20,23 +17,21 @@ use Rattle.rule.specs.Grammar.{Ts, IsAtom, read_is, read_is_not, counter_is, cou
 use Rattle.rule.specs.Inside.Within.{AtomWithin, ConditionWithin}
 use Rattle.construction.specs.Construction.{Part, atom_rows, Added, walk, one_after_other, one_or_other, test}
 use Rattle.compiler.specs.Inside.Writing.{Sheet, Filled, Room, Writes}
-use Rattle.compiler.specs.Inside.Seeing.{Here, SeenAs, Sees, GoesPast}
-use Rattle.atoms.specs.Atom.{AtomAt}
+use Rattle.compiler.specs.Inside.Seeing.{Here, Seen, SeenAs, Sees, NotSign, GoesPast}
+use Rattle.atoms.specs.Atom.{Read, AtomAt}
 use Rattle.reader.specs.Inside.Atoms.{atom_of}
 use Rattle.atoms.specs.declared.Atom.{Atom as Tested}
 use Rattle.atoms.specs.declared.AtomRead.{AtomRead}
-use Rattle.atoms.specs.declared.AtomRead.TheVariants.{Found, Refused}
-use Rattle.atoms.specs.contracts.AtomRead as read-type
+use Rattle.std.specs.Prelude.{Ok}
 use Rattle.compiler.specs.Inside.Atoms.{rows_of}
-use Rattle.compiler.specs.Inside.Emission.{At, Doing, Ready, Emitted, Emits, rows_part, added_part, AtomTask, an_atom, Closes, by_paren, by_or, by_any, WalkTask, walks, joins, joined, takes, via_to, via_from, via_next, Leads, TestTask, tests}
+use Rattle.compiler.specs.Inside.Place.{Place}
+use Rattle.compiler.specs.Inside.Emission.{At, Doing, Emitted, rows_part, added_part, AtomTask, an_atom, Closes, by_paren, by_or, by_any, WalkTask, walks, joins, joined, takes, via_to, via_from, via_next, Leads, TestTask, tests}
 use Rattle.compiler.specs.Inside.Operators.{ahead, Ahead}
-use Rattle.compiler.specs.declared.Place.{Place}
 use Rattle.compiler.specs.declared.walk.Course.{Course}
-use Rattle.compiler.specs.declared.see.Seen.{Seen}
 use Rattle.construction.proofs.Parts.{leads_walk}
-use Rattle.compiler.proofs.Tags.{sign_tag, sign_tags, none_of}
+use Rattle.compiler.proofs.Tags.{sign_tag}
 use Rattle.compiler.proofs.Operators.{operator, join, no_operator, one_operator}
-use Rattle.compiler.proofs.Seeing.{here_some, seen_sign, SignAt, sign_at}
+use Rattle.compiler.proofs.Seeing.{here_some, SignAt, sign_at}
 use Rattle.compiler.proofs.AtomTokens.{FoundAt, atom_found, rows_are_lem}
 use Rattle.compiler.proofs.Emission.{at_room, at_rows, at_moved, at_past, at_onward, emitted_as, emitted_past, rows_emitted, fits_first, fits_then}
 
@@ -52,14 +47,6 @@ record AtomOf (to : ℕ) (sign : Bool) (alphabet : List ℕ) (p next : ℕ) (ts 
 atom_of_lem : {to : ℕ} {sign : Bool} {alphabet : List ℕ} {p next : ℕ} {ts us : Ts} {part : Part} → AtomTask to sign alphabet p next ts us part → AtomOf to sign alphabet p next ts us part
 atom_of_lem (an_atom d within below) = record { place = _; atom = _; derived = d; within = within; below = below; is = refl }
 
-abbrev atom_in : Tested → AtomRead → Tested
-atom_in default (Found a end) = a
-atom_in default (Refused r) = default
-
-abbrev end_in : AtomRead → ℕ
-end_in (Found a end) = end
-end_in (Refused r) = 0
-
 module _ {text out : List ℕ} {place : Place} {to : ℕ} {sign : Bool} {h : Sheet} {accepting : List ℕ} {rows : List Row} {p next : ℕ} {ts us : Ts} {part : Part} (d : Doing (AtomTask to sign) text out place h accepting rows p next ts us part) where
   abbrev task : AtomOf to sign h.alphabet p next ts us part
   task = atom_of_lem d.is
@@ -70,42 +57,45 @@ module _ {text out : List ℕ} {place : Place} {to : ℕ} {sign : Bool} {h : She
       let next-is : part.next ≡ next = ap (λ (x : Part). x.next) task.is in
       (omega (arith, d.stands.state, d.stands.taken, d.states), omega (arith, task.below, d.states))
 
-  module _ {r : AtomRead} (reads : AtomAt text place.at r) where
+  module _ {r : Read} (reads : AtomAt text place.at r) where
     abbrev found : FoundAt text place.at us (atom_of task.atom) r
     found = atom_found h.alphabet reads d.stands.here task.derived task.within
 
     -- it is not refused
-    pub atom_not_refused : OneOf (1 ∷ []) (tag_of read-type.the_type r) → ⊥
-    atom_not_refused left = miss (1 ∷ []) 0 tt (subst (λ (x : AtomRead). OneOf (1 ∷ []) (tag_of read-type.the_type x)) found.is left)
+    pub atom_not_refused : ((a : AtomRead) → r ≡ Ok a → ⊥) → ⊥
+    atom_not_refused none = none _ found.is
 
-    module _ (atom : Tested) (end : ℕ) (is : r ≡ Found atom end) where
-      same_atom : atom_of task.atom ≡ atom
-      same_atom = ap (atom_in atom) (sym found.is ∙ is)
+    module _ (read : AtomRead) (is : r ≡ Ok read) where
+      same_read : record { atom = atom_of task.atom; at = found.end } ≡ read
+      same_read = let both = sym found.is ∙ is in cc
 
-      same_end : found.end ≡ end
-      same_end = ap end_in (sym found.is ∙ is)
+      same_atom : atom_of task.atom ≡ read.atom
+      same_atom = ap (λ (a : AtomRead). a.atom) same_read
 
-      atom_rows_lem : atom_rows h.alphabet sign task.atom p to ≡ rows_of atom sign h.alphabet place.state to
+      same_end : found.end ≡ read.at
+      same_end = ap (λ (a : AtomRead). a.at) same_read
+
+      atom_rows_lem : atom_rows h.alphabet sign task.atom p to ≡ rows_of read.atom sign h.alphabet place.state to
       atom_rows_lem =
           rows_are_lem h.alphabet sign task.atom p to
           ∙ ap (λ (a : Tested). rows_of a sign h.alphabet p to) same_atom
-          ∙ ap (λ (n : ℕ). rows_of atom sign h.alphabet n to) (sym d.stands.state)
+          ∙ ap (λ (n : ℕ). rows_of read.atom sign h.alphabet n to) (sym d.stands.state)
 
-      pub atom_room : Room out place.row (λ alphabet. rows_of atom sign alphabet place.state to)
+      pub atom_room : Room out place.row (λ alphabet. rows_of read.atom sign alphabet place.state to)
       atom_room =
-          at_room d.stands (λ alphabet. rows_of atom sign alphabet place.state to)
+          at_room d.stands (λ alphabet. rows_of read.atom sign alphabet place.state to)
           (subst (λ (zs : List Row). length rows + length zs ≤ h.count) (ap (λ (x : Part). x.rows) task.is ∙ atom_rows_lem) d.fits)
 
-      pub atom_onward : place.at ≤ end
+      pub atom_onward : place.at ≤ read.at
       atom_onward = omega (arith, found.onward, same_end)
 
       pub atom_emits : {after : List ℕ} {row : ℕ}
-          → Writes out after place.row row (λ alphabet. rows_of atom sign alphabet place.state to)
-          → Emitted text after (record { at = end; state = place.state; next = place.next; row = row }) h accepting rows us part
+          → Writes out after place.row row (λ alphabet. rows_of read.atom sign alphabet place.state to)
+          → Emitted text after (record { at = read.at; state = place.state; next = place.next; row = row }) h accepting rows us part
       atom_emits w =
           emitted_as task.is
           (rows_emitted (subst (λ (n : ℕ). Here text n us) same_end found.here)
-          (at_rows d.stands (λ alphabet. rows_of atom sign alphabet place.state to) _ (sym atom_rows_lem) (subst (λ (x : Part). length rows + length x.rows ≤ h.count) task.is d.fits) w)
+          (at_rows d.stands (λ alphabet. rows_of read.atom sign alphabet place.state to) _ (sym atom_rows_lem) (subst (λ (x : Part). length rows + length x.rows ≤ h.count) task.is d.fits) w)
           d.stands.state
           d.stands.takes
           d.stands.taken)
@@ -206,7 +196,7 @@ via_taken true p next taken grown = omega (arith, grown)
 via_taken false p next taken grown = omega arith
 
 -- the two calls of a chain with an operator
-module _ {text out : List ℕ} {place : Place} {sought : Bool} {to : ℕ} {sign : Bool} {w : Course} (goes : Leads (takes sought sign) to place w)
+module _ {text out : List ℕ} {place : Place} {sought : Bool} {to : ℕ} {sign : Bool} {w : Course} (goes : Leads (takes sought sign) to place.state place.next w)
     {h : Sheet} {accepting : List ℕ} {rows : List Row} {p next : ℕ} {ts us : Ts} {part : Part}
     (d : Doing (WalkTask (joins sought) to sign) text out place h accepting rows p next ts us part)
     (s : Sides sought to sign h.alphabet p next ts us part) where
@@ -292,17 +282,18 @@ unfolding walk ConditionWithin
 enclosed {to = to} {sign = sign} {alphabet = alphabet} {p = p} {next = next} {q = q} {ts = ts} {us = us} (walks (atom {a = a} x8) closes within below) = elim x8 [ ]
 enclosed (walks (parens d) closes within below) = record { place = _; inner = walks d by_paren within below }
 
-atom_only : {text : List ℕ} {from k e b : ℕ} {x : Word} {g : Sign} {to : ℕ} {sign : Bool} {alphabet : List ℕ} {p next : ℕ} {ts us : Ts} {part : Part}
+atom_only : {text : List ℕ} {from : ℕ} {to : ℕ} {sign : Bool} {alphabet : List ℕ} {p next : ℕ} {ts us : Ts} {part : Part}
     → WalkTask tightest to sign alphabet p next ts us part
-    → SeenAs text from ts x g b k e
-    → OneOf (sign_tags (3 ∷ 11 ∷ [])) (sign_tag g)
+    → Here text from ts
+    → NotSign text from Sign.Not
+    → NotSign text from Sign.OpenParen
     → AtomTask to sign alphabet p next ts us part
 unfolding walk ConditionWithin
-atom_only (walks (atom a) closes within below) seen other = an_atom a within below
-atom_only {g = g} (walks (parens d) closes within below) seen other =
-    absurd (none_of (sign_tags (3 ∷ 11 ∷ [])) (sign_tag g) 11 tt other (ap sign_tag (seen_sign Sign.OpenParen seen refl)))
-atom_only {g = g} (walks (negation d) closes within below) seen other =
-    absurd (none_of (sign_tags (3 ∷ 11 ∷ [])) (sign_tag g) 3 tt other (ap sign_tag (seen_sign Sign.Not seen refl)))
+atom_only (walks (atom a) closes within below) here none closed = an_atom a within below
+atom_only (walks (parens d) closes within below) here none closed =
+    absurd (closed.other here refl)
+atom_only (walks (negation d) closes within below) here none closed =
+    absurd (none.other here refl)
 
 -- the call of an operand, by the sign that is seen
 module _ {text out : List ℕ} {place : Place} {to : ℕ} {sign : Bool} {t : Seen} (sees : Sees text place.at t)
@@ -340,8 +331,15 @@ module _ {text out : List ℕ} {place : Place} {to : ℕ} {sign : Bool} {t : See
     parens_doing =
         record { stands = moved_here Sign.OpenParen tt is; is = inside.inner; states = d.states; fits = d.fits }
 
-  pub atom_doing : OneOf (sign_tags (3 ∷ 11 ∷ [])) (sign_tag t.sign) → Doing (AtomTask to sign) text out place h accepting rows p next ts us part
-  atom_doing other = record { stands = d.stands; is = atom_only d.is first_seen other; states = d.states; fits = d.fits }
+-- and with neither
+pub atom_doing : {text out : List ℕ} {place : Place} {to : ℕ} {sign : Bool}
+    {h : Sheet} {accepting : List ℕ} {rows : List Row} {p next : ℕ} {ts us : Ts} {part : Part}
+    → NotSign text place.at Sign.Not
+    → NotSign text place.at Sign.OpenParen
+    → Doing (WalkTask tightest to sign) text out place h accepting rows p next ts us part
+    → Doing (AtomTask to sign) text out place h accepting rows p next ts us part
+atom_doing none closed d =
+    record { stands = d.stands; is = atom_only d.is d.stands.here none closed; states = d.states; fits = d.fits }
 
 -- a chain without an operator
 pub side_doing : {text out : List ℕ} {place : Place} {sought : Bool} {to : ℕ} {sign : Bool}
@@ -368,12 +366,6 @@ pub walk_few : {level : Binding} {text out : List ℕ} {place : Place} {to : ℕ
 walk_few d =
     let w = walk_of d.is in
     omega (arith, d.stands.takes, w.grows, ap (λ (x : Part). x.next) w.is, d.states)
-
--- the state that an operator takes
-pub goes_through : (taking : Bool) (to : ℕ) (place : Place) → taking ≡ true → Leads taking to place (record { to = place.next; from = place.next; next = place.next + 1 })
-goes_through taking to place e =
-    subst (λ (t : Bool). Leads t to place (record { to = place.next; from = place.next; next = place.next + 1 })) (sym e)
-    (record { first = refl; second = refl; takes = refl })
 
 -- how the measure falls: from a chain to a side of it
 abbrev pub rank : Bool → ℕ → ℕ → ℕ
@@ -408,14 +400,6 @@ pub walk_some : {level : Binding} {text out : List ℕ} {place : Place} {to : �
     → Doing (WalkTask level to sign) text out place h accepting rows p next ts us part
     → place.at < length text
 walk_some d = walk_text d.is d.stands.here
-
--- a side of an operator, by which operator it is
-module _ {sought is : Bool} (same : sought ≡ is) {text out : List ℕ} {place : Place} {to : ℕ} {sign : Bool} where
-  pub side_ready : Ready (WalkTask (joined sought) to sign) text out place → Ready (WalkTask (joined is) to sign) text out place
-  side_ready r = subst (λ (b : Bool). Ready (WalkTask (joined b) to sign) text out place) same r
-
-  pub side_emits : {after : List ℕ} {r : Place} → Emits (WalkTask (joined is) to sign) text out after place r → Emits (WalkTask (joined sought) to sign) text out after place r
-  side_emits {after} {r} e = subst (λ (b : Bool). Emits (WalkTask (joined b) to sign) text out after place r) (sym same) e
 
 -- a condition in its own parentheses
 pub record TestOf (yes no : ℕ) (alphabet : List ℕ) (p next : ℕ) (ts us : Ts) (part : Part) : Type 0 where

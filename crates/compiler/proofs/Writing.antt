@@ -9,6 +9,10 @@ use lib.ListN.{length, get_or, take, drop, replicate, length-append, length-drop
 use lib.Seq.{take_at, drop_at, length-take-le, drop-cons, drop-length}
 use lib.Dec.{eqb}
 use borrow.Author.Tests.{eq-eqb, ne_eqb}
+use mir.Val.{bool_byte}
+use Rattle.std.specs.Int.{to_be_bytes, w16}
+use Rattle.std.specs.List.{AllWithin, HoldsAt}
+use Rattle.std.specs.Prelude.{Option, Some, None, MatchOption, unwrap_or}
 use Rattle.bits.specs.Bit.{with_bit}
 use Rattle.bits.proofs.Over.{over-behind}
 use Rattle.table.specs.Form.{first_edition, letters_place, accepting_place, accepting_bytes, rows_place, row_width}
@@ -75,6 +79,20 @@ module _ {h : Sheet} {accepting : List ℕ} {rows : List Row} {out : List ℕ} (
         room = holds.room;
         most = holds.most;
       }
+
+-- the two bytes of a number, as the library has them
+pub two_bytes_are : (n : ℕ) → n < 65536 → to_be_bytes w16 n ≡ two_bytes n
+unfolding two_bytes
+two_bytes_are n few = let high : n / 256 % 256 ≡ n / 256 = omega arith in ap (λ (h : ℕ). h ∷ n % 256 ∷ []) high
+
+-- and each of them
+pub high_byte : {bytes : List ℕ} (n : ℕ) → bytes ≡ two_bytes n → get_or bytes 0 0 ≡ n / 256
+unfolding two_bytes
+high_byte n e = ap (λ (l : List ℕ). get_or l 0 0) e
+
+pub low_byte : {bytes : List ℕ} (n : ℕ) → bytes ≡ two_bytes n → get_or bytes 1 0 ≡ n % 256
+unfolding two_bytes
+low_byte n e = ap (λ (l : List ℕ). get_or l 1 0) e
 
 -- a row's bytes
 pub row_bytes_lem : (from symbol test move change to f₁ f₂ t₁ t₂ : ℕ)
@@ -148,6 +166,13 @@ unfolding index_in
 index_nowhere xs b others =
     let none : index_in (drop (length xs) xs) b ≡ 0 = rw (drop-length xs) refl in
     omega (arith, index_passed xs b (length xs) (le_refl (length xs)) others, none)
+
+-- as the library looks for it
+pub index_by : (xs : List ℕ) (b : ℕ) (r : Option ℕ)
+    → MatchOption r (AllWithin (λ (x : ℕ). ¬ (x ≡ b)) xs 0 (length xs)) (λ i. (i < length xs) × HoldsAt (λ (x : ℕ). x ≡ b) xs i × AllWithin (λ (x : ℕ). ¬ (x ≡ b)) xs 0 i)
+    → unwrap_or r (length xs) ≡ index_in xs b
+index_by xs b None none = index_nowhere xs b (λ k low. none k 0 (omega arith) low)
+index_by xs b (Some i) (inside, here, none) = index_found xs b i inside (λ k low. none k 0 (omega arith) low) (here 0)
 
 module _ {h : Sheet} {accepting : List ℕ} {rows : List Row} {out : List ℕ} (holds : Holds h accepting rows out) where
   held_lead : out ≡ lead h ++ (rest h accepting rows ++ drop (row_place h rows) h.old)
@@ -255,7 +280,39 @@ header_bytes h k f s₁ s₂ n₁ n₂ few k-is f-is s₁_is s₂_is n₁-is n�
     (3 ∷ 0 ∷ 1 ∷ flag h.decr_on_zero ∷ 4 ∷ 0 ∷ 2 ∷ h.states / 256 ∷ h.states % 256 ∷ 5 ∷ 0 ∷ accepting_bytes ∷ [])
     (accept_bytes [] ++ (6 ∷ two_bytes (row_width * h.count)))))
 
-pub heads : {before middle after : List ℕ} (count : ℕ) (decr_on_zero : Bool) (states rows k f s₁ s₂ n₁ n₂ : ℕ)
+-- the library's byte of a truth
+pub flag_is : (d : Bool) → bool_byte d ≡ flag d
+unfolding flag
+flag_is true = refl
+flag_is false = refl
+
+-- bytes put behind bytes that were put
+over_over : (l xs ys : List ℕ) (at n : ℕ) → at ≤ length l → n ≡ at + length xs → over (over l at xs) n ys ≡ over l at (xs ++ ys)
+over_over l xs ys at n within is =
+    let long : length (take at l ++ xs) ≡ n = omega (arith, length-append (take at l) xs, length-take-le at l within) in
+    ap (λ (k : List ℕ). over k n ys) (sym (append_assoc (take at l) xs (drop (at + length xs) l)) ∙ ap (λ (m : ℕ). (take at l ++ xs) ++ drop m l) (sym is))
+    ∙ over-behind (take at l ++ xs) ys l n long
+    ∙ ap (λ (k : List ℕ). k ++ drop (n + length ys) l) (append_assoc (take at l) xs ys)
+    ∙ append_assoc (take at l) (xs ++ ys) (drop (n + length ys) l)
+    ∙ ap (λ (m : ℕ). take at l ++ ((xs ++ ys) ++ drop m l)) (omega (arith, is, length-append xs ys))
+
+-- the header behind the letters, in three parts: up to the accept bytes, these, and what stands before the rows
+parts_put : (middle fields accepts after : List ℕ) (count f s₁ s₂ n₁ n₂ : ℕ)
+    → count + accepting_place 0 ≤ length middle
+    → fields ≡ over middle (count + letters_place) (3 ∷ 0 ∷ 1 ∷ f ∷ 4 ∷ 0 ∷ 2 ∷ s₁ ∷ s₂ ∷ 5 ∷ 0 ∷ accepting_bytes ∷ [])
+    → accepts ≡ over fields (count + accepting_place 0) (replicate accepting_bytes 0)
+    → after ≡ over accepts (count + 35) (6 ∷ n₁ ∷ n₂ ∷ [])
+    → after ≡ over middle (count + letters_place) (behind_letters f s₁ s₂ n₁ n₂)
+parts_put middle fields accepts after count f s₁ s₂ n₁ n₂ within a b c =
+    let first : List ℕ = 3 ∷ 0 ∷ 1 ∷ f ∷ 4 ∷ 0 ∷ 2 ∷ s₁ ∷ s₂ ∷ 5 ∷ 0 ∷ accepting_bytes ∷ [] in
+    c
+    ∙ ap (λ (l : List ℕ). over l (count + 35) (6 ∷ n₁ ∷ n₂ ∷ []))
+    (b
+    ∙ ap (λ (l : List ℕ). over l (count + accepting_place 0) (replicate accepting_bytes 0)) a
+    ∙ over_over middle first (replicate accepting_bytes 0) (count + letters_place) (count + accepting_place 0) (omega arith) (omega arith))
+    ∙ over_over middle (first ++ replicate accepting_bytes 0) (6 ∷ n₁ ∷ n₂ ∷ []) (count + letters_place) (count + 35) (omega arith) (omega arith)
+
+pub heads : {before middle fields accepts after : List ℕ} (count : ℕ) (decr_on_zero : Bool) (states rows k f s₁ s₂ n₁ n₂ : ℕ)
     → (count ≤ 16) × (states ≤ 128) × (rows ≤ 1024) × (image_room ≤ length before)
     → k ≡ count % 256
     → f ≡ flag decr_on_zero
@@ -264,11 +321,19 @@ pub heads : {before middle after : List ℕ} (count : ℕ) (decr_on_zero : Bool)
     → n₁ ≡ row_width * rows / 256
     → n₂ ≡ row_width * rows % 256
     → middle ≡ over before 0 (before_letters k)
-    → after ≡ over middle (count + letters_place) (behind_letters f s₁ s₂ n₁ n₂)
+    → fields ≡ over middle (count + letters_place) (3 ∷ 0 ∷ 1 ∷ f ∷ 4 ∷ 0 ∷ 2 ∷ s₁ ∷ s₂ ∷ 5 ∷ 0 ∷ accepting_bytes ∷ [])
+    → accepts ≡ over fields (count + accepting_place 0) (replicate accepting_bytes 0)
+    → after ≡ over accepts (count + 35) (6 ∷ n₁ ∷ n₂ ∷ [])
     → Heads before after count decr_on_zero states rows
-heads {before} {middle} {after} count decr_on_zero states rows k f s₁ s₂ n₁ n₂ bounds k-is f-is s₁_is s₂_is n₁-is n₂-is middle_is after_is =
+heads {before} {middle} {fields} {accepts} {after} count decr_on_zero states rows k f s₁ s₂ n₁ n₂ bounds k-is f-is s₁_is s₂_is n₁-is n₂-is middle_is fields-is accepts-is last-is =
     record { heads = head }
   where
+    long_enough : count + accepting_place 0 ≤ length middle
+    long_enough = omega (arith, bounds, ap length middle_is, length-append (before_letters k) (drop 7 before), length-drop 7 before)
+
+    after_is : after ≡ over middle (count + letters_place) (behind_letters f s₁ s₂ n₁ n₂)
+    after_is = parts_put middle fields accepts after count f s₁ s₂ n₁ n₂ long_enough fields-is accepts-is last-is
+
     head : (old alphabet : List ℕ)
         → before ≡ over old letters_place alphabet
         → count ≡ length alphabet

@@ -2,6 +2,7 @@
 pub mod Atoms
 pub mod Emission
 pub mod Operators
+pub mod Place
 pub mod Seeing
 pub mod Setting
 pub mod Writing

@@ -1,73 +1,56 @@
 // Whether an operator comes next at its level of a condition. The walker has to know it before it walks what stands before
 // the operator, since a state may be taken first.
 ghost use Rattle.std.specs.Prelude.{◌≡◌, ◌+◌, ◌^◌, ◌<◌};
-ghost use Rattle.compiler.specs.Inside.Operators.{mark_of, look_at, Ahead};
+ghost use Rattle.compiler.specs.Inside.Operators.{mark_of, look_at, is_or, Ahead};
 
-use super::see::see;
-use text::Sign;
+use super::see::{Cursor, end_of};
+use std::ops::ControlFlow;
+use text::{Sign, Token};
+use tokeniser::token_at;
 
-// What a sign says, with so many parentheses open: the answer, or to go on with so many open.
-#[derive(Clone, Copy)]
-enum Looked {
-    Answer(bool),
-    On(usize),
+// What joins two conditions.
+#[derive(Clone, Copy, Debug, PartialEq, Eq)]
+pub enum Operator {
+    And,
+    Or,
 }
 
-fn look(sign: Sign, depth: usize, or: bool) -> Looked
+// What a sign says, with so many parentheses open: the answer, or to go on with so many open.
+fn look(sign: Sign, depth: usize, operator: Operator) -> ControlFlow<bool, usize>
     requires { depth + 1 < 2 ^ 64 }
-    ensures { result ≡ look_at (mark_of sign) depth or }
+    ensures { result ≡ look_at (mark_of sign) depth (is_or operator) }
 {
     match sign {
-        Sign::OpenParen => Looked::On(depth + 1),
-        Sign::CloseParen => {
-            if depth == 0 {
-                Looked::Answer(false)
-            } else {
-                Looked::On(depth - 1)
-            }
-        }
-        Sign::Or => {
-            if depth == 0 {
-                Looked::Answer(or)
-            } else {
-                Looked::On(depth)
-            }
-        }
-        Sign::And => {
-            if depth == 0 {
-                if or {
-                    Looked::On(depth)
-                } else {
-                    Looked::Answer(true)
-                }
-            } else {
-                Looked::On(depth)
-            }
-        }
-        _ => Looked::On(depth),
+        Sign::OpenParen => ControlFlow::Continue(depth + 1),
+        Sign::CloseParen if depth == 0 => ControlFlow::Break(false),
+        Sign::CloseParen => ControlFlow::Continue(depth - 1),
+        Sign::Or if depth == 0 => ControlFlow::Break(operator == Operator::Or),
+        Sign::And if depth == 0 && operator == Operator::And => ControlFlow::Break(true),
+        _ => ControlFlow::Continue(depth),
     }
 }
 
-// Whether `||` comes next, or, if `or` is false, `&&`, outside of parentheses that open behind this place.
-pub fn operator_ahead(text: &[u8], from: usize, or: bool) -> bool
-    ensures { Ahead text.now from or result }
-{
-    let mut at = from;
-    let mut depth = 0;
-    loop {
-        let t = see(text, at);
-        let end = t.end;
-        if end <= at {
-            return false;
-        }
-        let sign = t.sign;
-        match look(sign, depth, or) {
-            Looked::Answer(found) => {
-                return found;
-            }
-            Looked::On(more) => {
-                depth = more;
+impl Cursor<'_> {
+    // Whether this operator comes next, outside of parentheses that open behind this place.
+    pub fn operator_ahead(self, operator: Operator) -> bool
+        ensures { Ahead self.entry.text.now self.entry.at (is_or operator) result }
+    {
+        let mut at = self.at;
+        let mut depth = 0;
+        loop {
+            let token = token_at(self.text, at);
+            if let Token::Sign { sign, end, .. } = token {
+                match look(sign, depth, operator) {
+                    ControlFlow::Break(found) => return found,
+                    ControlFlow::Continue(more) => {
+                        depth = more;
+                        at = end;
+                    }
+                }
+            } else if let Some(end) = end_of(token) {
                 at = end;
+            } else {
+                return false;
             }
         }
     }

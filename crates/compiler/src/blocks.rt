@@ -3,241 +3,146 @@ ghost use Rattle.std.specs.Prelude.{◌<◌};
 ghost use Rattle.text.specs.Token.{w};
 ghost use Rattle.compiler.specs.Inside.Emission.{Ready, Emits, HeadedTask, EntryTask, StatementTask, RestTask, BodyTask, ElseTask, ArmsTask};
 
-use super::plain::{emit_change, emit_goto, emit_move, emit_stop};
-use super::see::{past, see};
-use super::walk::emit_condition;
-use super::{Place, write};
+use super::{Emitter, write};
 use text::{Sign, Word};
 
-// A block, and a free row from its exit.
-#[cycle(blocks)]
-fn emit_block(text: &[u8], out: &mut [u8], place: Place, to: usize) -> Place
-    requires { Ready (BodyTask to) text.now out.old place }
-    ensures { Emits (BodyTask to) text.now out.old out.new place result }
-{
-    let inside = Place {
-        at: past(text, place.at, 1),
-        state: place.state,
-        next: place.next,
-        row: place.row,
-    };
-    let last = emit_statements(text, out, inside);
-    let row = write::free(out, last.row, last.state, to);
-    Place {
-        at: last.at,
-        state: to,
-        next: last.next,
-        row,
+impl Emitter<'_> {
+    // A block, and a free row from its exit.
+    #[cycle(blocks)]
+    fn emit_block(&mut self, to: usize)
+        requires { Ready (BodyTask to) self.old }
+        ensures { Emits (BodyTask to) self.old self.new }
+    {
+        self.cursor.skip(1);
+        self.emit_statements();
+        self.row = write::free(self.out, self.row, self.state, to);
+        self.state = to;
     }
-}
 
-// `else` and its block, or nothing; then a free row.
-#[cycle(blocks)]
-fn emit_else(text: &[u8], out: &mut [u8], place: Place, to: usize) -> Place
-    requires { Ready (ElseTask to) text.now out.old place }
-    ensures { Emits (ElseTask to) text.now out.old out.new place result }
-{
-    let t = see(text, place.at);
-    let word = t.word;
-    if let Word::Else = word {
-        let behind = Place {
-            at: t.end,
-            state: place.state,
-            next: place.next,
-            row: place.row,
-        };
-        emit_block(text, out, behind, to)
-    } else {
-        let row = write::free(out, place.row, place.state, to);
-        Place {
-            at: place.at,
-            state: to,
-            next: place.next,
-            row,
+    // `else` and its block, or nothing; then a free row.
+    #[cycle(blocks)]
+    fn emit_else(&mut self, to: usize)
+        requires { Ready (ElseTask to) self.old }
+        ensures { Emits (ElseTask to) self.old self.new }
+    {
+        if self.cursor.eat_word(Word::Else) {
+            self.emit_block(to);
+        } else {
+            self.row = write::free(self.out, self.row, self.state, to);
+            self.state = to;
         }
     }
-}
 
-// if ( cond ) block, with an optional else block. Each of the statements below starts behind its first word.
-#[cycle(blocks)]
-fn emit_if(text: &[u8], out: &mut [u8], place: Place) -> Place
-    requires { Ready (HeadedTask (w "if")) text.now out.old place }
-    ensures { Emits (HeadedTask (w "if")) text.now out.old out.new place result }
-{
-    let exit = place.next;
-    let yes = exit + 1;
-    let no = exit + 2;
-    let start = Place {
-        at: place.at,
-        state: place.state,
-        next: exit + 3,
-        row: place.row,
-    };
-    let asked = emit_condition(text, out, start, yes, no);
-    let holding = Place {
-        at: asked.at,
-        state: yes,
-        next: asked.next,
-        row: asked.row,
-    };
-    let first = emit_block(text, out, holding, exit);
-    let failing = Place {
-        at: first.at,
-        state: no,
-        next: first.next,
-        row: first.row,
-    };
-    emit_else(text, out, failing, exit)
-}
+    // if ( cond ) block, with an optional else block. Each of the statements below starts behind its first word.
+    #[cycle(blocks)]
+    fn emit_if(&mut self)
+        requires { Ready (HeadedTask (w "if")) self.old }
+        ensures { Emits (HeadedTask (w "if")) self.old self.new }
+    {
+        let exit = self.next;
+        let yes = exit + 1;
+        let no = exit + 2;
+        self.next = exit + 3;
+        self.emit_condition(yes, no);
+        self.state = yes;
+        self.emit_block(exit);
+        self.state = no;
+        self.emit_else(exit);
+    }
 
-// What stands between `while` and its block: `choose`, or a condition.
-fn emit_entry(text: &[u8], out: &mut [u8], place: Place, into: usize, over: usize) -> Place
-    requires { Ready (EntryTask into over) text.now out.old place }
-    ensures { Emits (EntryTask into over) text.now out.old out.new place result }
-{
-    let t = see(text, place.at);
-    let word = t.word;
-    if let Word::Choose = word {
-        let row = write::free(out, place.row, place.state, into);
-        let end = write::free(out, row, place.state, over);
-        Place {
-            at: t.end,
-            state: place.state,
-            next: place.next,
-            row: end,
+    // What stands between `while` and its block: `choose`, or a condition.
+    fn emit_entry(&mut self, into: usize, over: usize)
+        requires { Ready (EntryTask into over) self.old }
+        ensures { Emits (EntryTask into over) self.old self.new }
+    {
+        if self.cursor.eat_word(Word::Choose) {
+            self.row = write::free(self.out, self.row, self.state, into);
+            self.row = write::free(self.out, self.row, self.state, over);
+        } else {
+            self.emit_condition(into, over);
         }
-    } else {
-        emit_condition(text, out, place, into, over)
     }
-}
 
-// while ( cond ) block and while choose block
-#[cycle(blocks)]
-fn emit_while(text: &[u8], out: &mut [u8], place: Place) -> Place
-    requires { Ready (HeadedTask (w "while")) text.now out.old place }
-    ensures { Emits (HeadedTask (w "while")) text.now out.old out.new place result }
-{
-    let exit = place.next;
-    let into = exit + 1;
-    let start = Place {
-        at: place.at,
-        state: place.state,
-        next: exit + 2,
-        row: place.row,
-    };
-    let entered = emit_entry(text, out, start, into, exit);
-    let inside = Place {
-        at: entered.at,
-        state: into,
-        next: entered.next,
-        row: entered.row,
-    };
-    let last = emit_block(text, out, inside, place.state);
-    Place {
-        at: last.at,
-        state: exit,
-        next: last.next,
-        row: last.row,
+    // while ( cond ) block and while choose block
+    #[cycle(blocks)]
+    fn emit_while(&mut self)
+        requires { Ready (HeadedTask (w "while")) self.old }
+        ensures { Emits (HeadedTask (w "while")) self.old self.new }
+    {
+        let from = self.state;
+        let exit = self.next;
+        let into = exit + 1;
+        self.next = exit + 2;
+        self.emit_entry(into, exit);
+        self.state = into;
+        self.emit_block(from);
+        self.state = exit;
     }
-}
 
-// Arms, behind the word before the first of them.
-#[cycle(blocks)]
-fn emit_arms(text: &[u8], out: &mut [u8], place: Place, to: usize) -> Place
-    requires { Ready (ArmsTask to) text.now out.old place }
-    ensures { Emits (ArmsTask to) text.now out.old out.new place result }
-{
-    let into = place.next;
-    let row = write::free(out, place.row, place.state, into);
-    let start = Place {
-        at: place.at,
-        state: into,
-        next: into + 1,
-        row,
-    };
-    let arm = emit_block(text, out, start, to);
-    let t = see(text, arm.at);
-    let word = t.word;
-    if let Word::Also = word {
-        let more = Place {
-            at: t.end,
-            state: place.state,
-            next: arm.next,
-            row: arm.row,
-        };
-        emit_arms(text, out, more, to)
-    } else {
-        arm
-    }
-}
-
-// branch block also block ..
-#[cycle(blocks)]
-fn emit_branch(text: &[u8], out: &mut [u8], place: Place) -> Place
-    requires { Ready (HeadedTask (w "branch")) text.now out.old place }
-    ensures { Emits (HeadedTask (w "branch")) text.now out.old out.new place result }
-{
-    let exit = place.next;
-    let start = Place {
-        at: place.at,
-        state: place.state,
-        next: exit + 1,
-        row: place.row,
-    };
-    emit_arms(text, out, start, exit)
-}
-
-// accept ; makes the state that it starts from an accepting one.
-fn emit_accept(text: &[u8], out: &mut [u8], place: Place) -> Place
-    requires { Ready (HeadedTask (w "accept")) text.now out.old place }
-    ensures { Emits (HeadedTask (w "accept")) text.now out.old out.new place result }
-{
-    write::accept(out, place.state);
-    emit_stop(text, place)
-}
-
-#[cycle(blocks)]
-fn emit_statement(text: &[u8], out: &mut [u8], place: Place) -> Place
-    requires { Ready StatementTask text.now out.old place }
-    ensures { Emits StatementTask text.now out.old out.new place result × (place.at < result.at) }
-{
-    let t = see(text, place.at);
-    let behind = Place {
-        at: t.end,
-        state: place.state,
-        next: place.next,
-        row: place.row,
-    };
-    let word = t.word;
-    match word {
-        Word::Move => emit_move(text, out, behind),
-        Word::Goto => emit_goto(text, out, behind),
-        Word::C => emit_change(text, out, behind),
-        Word::Accept => emit_accept(text, out, behind),
-        Word::Reject => emit_stop(text, behind),
-        Word::If => emit_if(text, out, behind),
-        Word::While => emit_while(text, out, behind),
-        _ => emit_branch(text, out, behind),
-    }
-}
-
-// What is left of a block, and its brace.
-#[cycle(blocks)]
-pub fn emit_statements(text: &[u8], out: &mut [u8], place: Place) -> Place
-    requires { Ready RestTask text.now out.old place }
-    ensures { Emits RestTask text.now out.old out.new place result }
-{
-    let t = see(text, place.at);
-    let sign = t.sign;
-    if let Sign::CloseBrace = sign {
-        Place {
-            at: t.end,
-            state: place.state,
-            next: place.next,
-            row: place.row,
+    // Arms, behind the word before the first of them.
+    #[cycle(blocks)]
+    fn emit_arms(&mut self, to: usize)
+        requires { Ready (ArmsTask to) self.old }
+        ensures { Emits (ArmsTask to) self.old self.new }
+    {
+        let from = self.state;
+        let into = self.next;
+        self.row = write::free(self.out, self.row, from, into);
+        self.state = into;
+        self.next = into + 1;
+        self.emit_block(to);
+        if self.cursor.eat_word(Word::Also) {
+            self.state = from;
+            self.emit_arms(to);
         }
-    } else {
-        let first = emit_statement(text, out, place);
-        emit_statements(text, out, first)
+    }
+
+    // branch block also block ..
+    #[cycle(blocks)]
+    fn emit_branch(&mut self)
+        requires { Ready (HeadedTask (w "branch")) self.old }
+        ensures { Emits (HeadedTask (w "branch")) self.old self.new }
+    {
+        let exit = self.next;
+        self.next = exit + 1;
+        self.emit_arms(exit);
+    }
+
+    // accept ; makes the state that it starts from an accepting one.
+    fn emit_accept(&mut self)
+        requires { Ready (HeadedTask (w "accept")) self.old }
+        ensures { Emits (HeadedTask (w "accept")) self.old self.new }
+    {
+        write::accept(self.out, self.state);
+        self.emit_stop();
+    }
+
+    #[cycle(blocks)]
+    fn emit_statement(&mut self)
+        requires { Ready StatementTask self.old }
+        ensures { Emits StatementTask self.old self.new × (self.old.cursor.at < self.new.cursor.at) }
+    {
+        match self.cursor.word() {
+            Word::Move => self.emit_move(),
+            Word::Goto => self.emit_goto(),
+            Word::C => self.emit_change(),
+            Word::Accept => self.emit_accept(),
+            Word::Reject => self.emit_stop(),
+            Word::If => self.emit_if(),
+            Word::While => self.emit_while(),
+            _ => self.emit_branch(),
+        }
+    }
+
+    // What is left of a block, and its brace.
+    #[cycle(blocks)]
+    pub fn emit_statements(&mut self)
+        requires { Ready RestTask self.old }
+        ensures { Emits RestTask self.old self.new }
+    {
+        if !self.cursor.eat_sign(Sign::CloseBrace) {
+            self.emit_statement();
+            self.emit_statements();
+        }
     }
 }

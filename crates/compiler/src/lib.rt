@@ -13,41 +13,43 @@ mod write;
 
 ghost use Rattle.construction.specs.Compile.{Compiles};
 
-use construction::Answer;
-use reader::Reading;
+use construction::Sizes;
+use reader::Counts;
+use see::Cursor;
+use table::reason::{Reason, Refusal};
 
-// Where the emitter stands: how far it has come in the text, the state that the next statement starts at, the next state
-// to be taken, and the byte of the image at which the next row is written.
-#[derive(Clone, Copy)]
-pub struct Place {
-    pub at: usize,
-    pub state: usize,
-    pub next: usize,
-    pub row: usize,
+// The emitter stands in a text and in an image: at the state that the next statement starts at, with the next state to be
+// taken, and at the byte at which the next row is written.
+#[derive(Drop)]
+struct Emitter<'a> {
+    cursor: Cursor<'a>,
+    out: &'a mut [u8],
+    state: usize,
+    next: usize,
+    row: usize,
 }
 
 // Nothing is written before the text is read to its end, so a refusal leaves every byte as it was.
-pub fn compile(text: &[u8], image: &mut [u8]) -> Answer
+pub fn compile(text: &[u8], image: &mut [u8]) -> Result<Sizes, Refusal>
     ensures { Compiles text.now image.old image.new result }
 {
     if text.len() > 4096 {
-        return Answer::Refused {
-            number: 1,
+        return Err(Refusal {
+            reason: Reason::LongText,
             place: 0,
-        };
+        });
     }
     if image.len() < 8246 {
-        return Answer::Refused {
-            number: 2,
+        return Err(Refusal {
+            reason: Reason::ShortImage,
             place: 0,
-        };
+        });
     }
-    match reader::read(text) {
-        Reading::Refused { number, place } => Answer::Refused { number, place },
-        Reading::Taken { states, rows } => Answer::Compiled {
-            bytes: emit::emit(text, image, states, rows),
-            states,
-            rows,
-        },
-    }
+    let Counts { states, rows } = reader::read(text)?;
+    let bytes = emit::emit(text, image, states, rows);
+    Ok(Sizes {
+        bytes,
+        states,
+        rows,
+    })
 }

@@ -1,95 +1,114 @@
-// The tokens of a text that is known to be a program, each taken apart at once.
+// The tokens of a text that is known to be a program, one behind the other.
 ghost use Rattle.std.specs.Prelude.{◌≡◌};
-ghost use Rattle.text.specs.First.{part};
 ghost use Rattle.rule.specs.Limits.{value_from};
-ghost use Rattle.compiler.specs.Inside.Seeing.{Sees, GoesPast, Digits};
+ghost use Rattle.compiler.specs.Inside.Seeing.{end_of, Skips, EatsWord, EatsSign, AtWord, ReadsWord, AtNumber, ReadsNumber, AtLetter, ReadsLetter, Digits};
 
 use text::{Sign, Token, Word};
 use tokeniser::token_at;
 
-// What stands at a place: which word, or Other; which sign, or the semicolon, at which nothing is decided; a letter's
-// byte, or 0; and the token's bytes, text[start..end]. Where no token stands it ends where it was looked for.
+// A text, and how far it is read.
 #[derive(Clone, Copy)]
-pub struct Seen {
-    pub word: Word,
-    pub sign: Sign,
-    pub byte: u8,
-    pub start: usize,
-    pub end: usize,
+pub struct Cursor<'a> {
+    pub text: &'a [u8],
+    pub at: usize,
 }
 
-pub fn see(text: &[u8], from: usize) -> Seen
-    ensures { Sees text.now from result }
+// Where a token ends; None where none stands.
+pub fn end_of(token: Token) -> Option<usize>
+    ensures { result ≡ end_of token }
 {
-    match token_at(text, from) {
-        Token::Word { at, end, word } => Seen {
-            word,
-            sign: Sign::Semicolon,
-            byte: 0,
-            start: at,
-            end,
-        },
-        Token::Number { at, end } => Seen {
-            word: Word::Other,
-            sign: Sign::Semicolon,
-            byte: 0,
-            start: at,
-            end,
-        },
-        Token::Letter { at, end, byte } => Seen {
-            word: Word::Other,
-            sign: Sign::Semicolon,
-            byte,
-            start: at,
-            end,
-        },
-        Token::Sign { at, end, sign } => Seen {
-            word: Word::Other,
-            sign,
-            byte: 0,
-            start: at,
-            end,
-        },
-        Token::End { at } => Seen {
-            word: Word::Other,
-            sign: Sign::Semicolon,
-            byte: 0,
-            start: at,
-            end: from,
-        },
-        Token::Broken { at } => Seen {
-            word: Word::Other,
-            sign: Sign::Semicolon,
-            byte: 0,
-            start: at,
-            end: from,
-        },
+    match token {
+        Token::Word { end, .. }
+        | Token::Number { end, .. }
+        | Token::Letter { end, .. }
+        | Token::Sign { end, .. } => Some(end),
+        Token::End { .. } | Token::Broken { .. } => None,
     }
 }
 
-// The place behind so many tokens.
-pub fn past(text: &[u8], from: usize, many: usize) -> usize
-    ensures { GoesPast text.now from many result }
-{
-    let mut at = from;
-    let mut i = 0;
-    while i < many {
-        at = see(text, at).end;
-        i += 1;
-    }
-    at
-}
-
-// The value of the digits text[from..to].
-pub fn number(text: &[u8], from: usize, to: usize) -> u8
-    requires { Digits text.now from to }
-    ensures { result ≡ value_from 0 (part text.now from to) }
+// The value of digits, where it is at most 63.
+fn value(digits: &[u8]) -> u8
+    requires { Digits digits.now }
+    ensures { result ≡ value_from 0 digits.now }
 {
     let mut value = 0;
-    let mut i = from;
-    while i < to {
-        value = 10 * value + (text[i] - 48);
-        i += 1;
+    for digit in digits {
+        value = 10 * value + (*digit - b'0');
     }
     value
+}
+
+impl Cursor<'_> {
+    // Past so many tokens.
+    pub fn skip(&mut self, many: usize)
+        ensures { Skips self.old self.new many }
+    {
+        for _ in 0..many {
+            self.at = end_of(token_at(self.text, self.at)).unwrap_or(self.at);
+        }
+    }
+
+    // Past this word, if it comes next; whether it does.
+    pub fn eat_word(&mut self, wanted: Word) -> bool
+        ensures { EatsWord self.old self.new wanted result }
+    {
+        let Token::Word { word, end, .. } = token_at(self.text, self.at) else {
+            return false;
+        };
+        if word != wanted {
+            return false;
+        }
+        self.at = end;
+        true
+    }
+
+    // Past this sign, if it comes next; whether it does.
+    pub fn eat_sign(&mut self, wanted: Sign) -> bool
+        ensures { EatsSign self.old self.new wanted result }
+    {
+        let Token::Sign { sign, end, .. } = token_at(self.text, self.at) else {
+            return false;
+        };
+        if sign != wanted {
+            return false;
+        }
+        self.at = end;
+        true
+    }
+
+    // Past a word; which it is.
+    pub fn word(&mut self) -> Word
+        requires { AtWord self.old }
+        ensures { ReadsWord self.old self.new result }
+    {
+        let Token::Word { word, end, .. } = token_at(self.text, self.at) else {
+            unreachable!()
+        };
+        self.at = end;
+        word
+    }
+
+    // Past a letter; its byte.
+    pub fn letter(&mut self) -> u8
+        requires { AtLetter self.old }
+        ensures { ReadsLetter self.old self.new result }
+    {
+        let Token::Letter { byte, end, .. } = token_at(self.text, self.at) else {
+            unreachable!()
+        };
+        self.at = end;
+        byte
+    }
+
+    // Past a number; its value.
+    pub fn number(&mut self) -> u8
+        requires { AtNumber self.old }
+        ensures { ReadsNumber self.old self.new result }
+    {
+        let Token::Number { at, end } = token_at(self.text, self.at) else {
+            unreachable!()
+        };
+        self.at = end;
+        value(&self.text[at..end])
+    }
 }

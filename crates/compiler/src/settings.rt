@@ -1,100 +1,87 @@
 // The settings, which a program begins with: their letters go into the image first, then the header around them.
-ghost use Rattle.compiler.specs.Inside.Setting.{Letters, Lists, Tells, Settings, Settles, Emittable, Begins};
+ghost use Rattle.compiler.specs.Inside.Setting.{Letters, Lists, AtTruth, Tells, Settings, Settles, Emittable, Begins};
 
-use super::see::{past, see};
-use super::{Place, write};
+use super::see::Cursor;
+use super::{Emitter, write};
 use table::form;
 use text::{Sign, Word};
 
-// The place behind the `]`, and how many letters there are.
-#[derive(Clone, Copy)]
-struct Listed {
-    at: usize,
-    count: usize,
-}
-
-// The letters behind the `[`, to where the image has them.
-fn letters(text: &[u8], out: &mut [u8], from: usize) -> Listed
-    requires { Letters text.now from out.old }
-    ensures { Lists text.now from out.old out.new result }
+// The letters behind the `[`, to where the image has them, and past the `]`; how many they are.
+fn letters(cursor: &mut Cursor<'_>, out: &mut [u8]) -> usize
+    requires { Letters cursor.old out.old }
+    ensures { Lists cursor.old cursor.new out.old out.new result }
 {
-    let mut at = from;
     let mut count = 0;
     loop {
-        let letter = see(text, at);
-        out[count + form::LETTERS_PLACE] = letter.byte;
+        out[count + form::LETTERS_PLACE] = cursor.letter();
         count += 1;
-        let next = see(text, letter.end);
-        at = next.end;
-        let sign = next.sign;
-        match sign {
-            Sign::Comma => {}
-            _ => {
-                return Listed { at, count };
-            }
+        if !cursor.eat_sign(Sign::Comma) {
+            cursor.skip(1);
+            return count;
         }
     }
 }
 
-// Whether `decr_on_zero` is true, from behind that word.
-fn truth(text: &[u8], at: usize) -> bool
-    ensures { Tells text.now at result }
+// Past `true ;` or `false ;`; which it is.
+fn truth(cursor: &mut Cursor<'_>) -> bool
+    requires { AtTruth cursor.old }
+    ensures { Tells cursor.old cursor.new result }
 {
-    let t = see(text, past(text, at, 1));
-    let word = t.word;
-    match word {
-        Word::True => true,
-        _ => false,
-    }
+    let told = cursor.word() == Word::True;
+    cursor.skip(1);
+    told
 }
 
-// The place behind the settings, how many letters there are, and `decr_on_zero`.
+// How many letters there are, and `decr_on_zero`.
 #[derive(Clone, Copy)]
 struct Settled {
-    at: usize,
     count: usize,
     decr_on_zero: bool,
 }
 
 // The two settings, in either order.
-fn emit_settings(text: &[u8], out: &mut [u8]) -> Settled
-    requires { Settings text.now out.old }
-    ensures { Settles text.now out.old out.new result }
+fn emit_settings(cursor: &mut Cursor<'_>, out: &mut [u8]) -> Settled
+    requires { Settings cursor.old out.old }
+    ensures { Settles cursor.old cursor.new out.old out.new result }
 {
-    let t = see(text, 0);
-    let word = t.word;
-    match word {
-        Word::Alphabet => {
-            let listed = letters(text, out, past(text, t.end, 2));
-            let behind = past(text, listed.at, 2);
-            Settled {
-                at: past(text, behind, 3),
-                count: listed.count,
-                decr_on_zero: truth(text, behind),
-            }
+    if cursor.eat_word(Word::Alphabet) {
+        cursor.skip(2);
+        let count = letters(cursor, out);
+        cursor.skip(3);
+        let decr_on_zero = truth(cursor);
+        Settled {
+            count,
+            decr_on_zero,
         }
-        _ => {
-            let listed = letters(text, out, past(text, t.end, 6));
-            Settled {
-                at: past(text, listed.at, 1),
-                count: listed.count,
-                decr_on_zero: truth(text, t.end),
-            }
+    } else {
+        cursor.skip(2);
+        let decr_on_zero = truth(cursor);
+        cursor.skip(3);
+        let count = letters(cursor, out);
+        cursor.skip(1);
+        Settled {
+            count,
+            decr_on_zero,
         }
     }
 }
 
-// Everything before the first statement: what the image has before its rows, and the place behind the `{`.
-pub fn begin(text: &[u8], out: &mut [u8], states: usize, rows: usize) -> Place
-    requires { Emittable text.now out.old states rows }
-    ensures { Begins text.now out.old out.new states rows result }
-{
-    let settled = emit_settings(text, out);
-    write::header(out, settled.count, settled.decr_on_zero, states, rows);
-    Place {
-        at: past(text, settled.at, 5),
-        state: 0,
-        next: 1,
-        row: settled.count + form::ROWS_PLACE,
+impl<'a> Emitter<'a> {
+    // Everything before the first statement: what the image has before its rows, and the place behind the `{`.
+    pub fn begin(text: &'a [u8], out: &'a mut [u8], states: usize, rows: usize) -> Emitter<'a>
+        requires { Emittable text.now out.old states rows }
+        ensures { Begins text.now out.entry states rows result }
+    {
+        let mut cursor = Cursor { text, at: 0 };
+        let settled = emit_settings(&mut cursor, out);
+        write::header(out, settled.count, settled.decr_on_zero, states, rows);
+        cursor.skip(5);
+        Emitter {
+            cursor,
+            out,
+            state: 0,
+            next: 1,
+            row: settled.count + form::ROWS_PLACE,
+        }
     }
 }

@@ -2,26 +2,26 @@
 ghost use Rattle.std.specs.Prelude.{◌+◌, ◌≤◌, ◌<◌, ◌≡◌, List, [], ◌∷◌, length, get_or, ℕ};
 ghost use Rattle.construction.specs.Construction.{all_symbols, without, symbol_rows};
 ghost use Rattle.compiler.specs.Inside.Writing.{Held, Room, Writes};
+ghost use Rattle.compiler.specs.Inside.Operators.{is_or};
 ghost use Rattle.compiler.specs.Inside.Atoms.{counter_rows, read_rows, walked_as, rows_of, Codes};
 ghost use Rattle.compiler.specs.Inside.Emission.{Ready, Emits, AtomTask, WalkTask, joins, joined, takes, Leads, TestTask};
 ghost use Rattle.rule.specs.Grammar.{tightest};
 
-use super::ahead::operator_ahead;
-use super::see::{past, see};
-use super::{Place, write};
-use atoms::AtomRead;
+use super::ahead::Operator;
+use super::{Emitter, write};
+use atoms::{Atom, AtomRead, Symbol};
 use table::form;
 use text::Sign;
 
 // The code of what `read` is compared with.
-fn code_of(out: &[u8], symbol: atoms::Symbol) -> u8
+fn code_of(out: &[u8], symbol: Symbol) -> u8
     requires { Held out.now }
     ensures { Codes out.now symbol result }
 {
     match symbol {
-        atoms::Symbol::Letter { byte, place: _ } => write::letter(out, byte),
-        atoms::Symbol::Lend => form::LEFT_MARK,
-        atoms::Symbol::Rend => form::RIGHT_MARK,
+        Symbol::Letter { byte, place: _ } => write::letter(out, byte),
+        Symbol::Lend => form::LEFT_MARK,
+        Symbol::Rend => form::RIGHT_MARK,
     }
 }
 
@@ -57,13 +57,9 @@ fn others(out: &mut [u8], at: usize, from: usize, to: usize, left_out: u8) -> us
     ensures { Writes out.old out.new at result (λ alphabet. symbol_rows (without left_out (all_symbols alphabet)) from to) }
 {
     let letters = write::letters(out);
-    let many = letters + 2;
     let mut end = at;
-    let mut i = 0;
-    while i < many {
-        let symbol = nth(i, letters);
-        end = unless(out, end, from, to, left_out, symbol);
-        i += 1;
+    for i in 0..letters + 2 {
+        end = unless(out, end, from, to, left_out, nth(i, letters));
     }
     end
 }
@@ -100,86 +96,27 @@ fn walked_as_is(equal: bool, sign: bool) -> bool
 }
 
 // The rows of an atom with its sign.
-fn rows(out: &mut [u8], at: usize, from: usize, to: usize, tests: atoms::Atom, sign: bool) -> usize
-    requires { Room out.old at (λ alphabet. rows_of tests sign alphabet from to) × (from ≤ 128) × (to ≤ 128) }
-    ensures { Writes out.old out.new at result (λ alphabet. rows_of tests sign alphabet from to) }
+fn rows(out: &mut [u8], at: usize, from: usize, to: usize, atom: Atom, sign: bool) -> usize
+    requires { Room out.old at (λ alphabet. rows_of atom sign alphabet from to) × (from ≤ 128) × (to ≤ 128) }
+    ensures { Writes out.old out.new at result (λ alphabet. rows_of atom sign alphabet from to) }
 {
-    match tests {
-        atoms::Atom::Read { equal, symbol } => {
+    match atom {
+        Atom::Read { equal, symbol } => {
             let code = code_of(out, symbol);
             read_rows(out, at, from, to, code, walked_as_is(equal, sign))
         }
-        atoms::Atom::Counter { zero } => {
-            counter_row(out, at, from, to, walked_as_is(zero, sign))
-        }
-    }
-}
-
-// An atom, as the reader answers it. In a program that is known to have one here it is found.
-fn emit_atom(text: &[u8], out: &mut [u8], place: Place, to: usize, sign: bool) -> Place
-    requires { Ready (AtomTask to sign) text.now out.old place }
-    ensures { Emits (AtomTask to sign) text.now out.old out.new place result }
-{
-    let read = atoms::atom_at(text, place.at);
-    let AtomRead::Found { atom: tests, at } = read else {
-        return place;
-    };
-    let row = rows(out, place.row, place.state, to, tests, sign);
-    Place {
-        at,
-        state: place.state,
-        next: place.next,
-        row,
-    }
-}
-
-// What binds tightest: an atom, a negation, a condition in parentheses.
-#[cycle(walk)]
-fn emit_operand(text: &[u8], out: &mut [u8], place: Place, to: usize, sign: bool) -> Place
-    requires { Ready (WalkTask tightest to sign) text.now out.old place }
-    ensures { Emits (WalkTask tightest to sign) text.now out.old out.new place result }
-{
-    let t = see(text, place.at);
-    let behind = Place {
-        at: t.end,
-        state: place.state,
-        next: place.next,
-        row: place.row,
-    };
-    let first = t.sign;
-    match first {
-        Sign::Not => emit_operand(text, out, behind, to, !sign),
-        Sign::OpenParen => {
-            let inner = emit_chain(text, out, behind, to, sign, true);
-            Place {
-                at: past(text, inner.at, 1),
-                state: inner.state,
-                next: inner.next,
-                row: inner.row,
-            }
-        }
-        _ => emit_atom(text, out, place, to, sign),
-    }
-}
-
-// What an operator joins: of `||` what `&&` joins, of `&&` what binds tightest.
-#[cycle(walk)]
-fn emit_side(text: &[u8], out: &mut [u8], place: Place, to: usize, sign: bool, or: bool) -> Place
-    requires { Ready (WalkTask (joined or) to sign) text.now out.old place }
-    ensures { Emits (WalkTask (joined or) to sign) text.now out.old out.new place result }
-{
-    if or {
-        emit_chain(text, out, place, to, sign, false)
-    } else {
-        emit_operand(text, out, place, to, sign)
+        Atom::Counter { zero } => { counter_row(out, at, from, to, walked_as_is(zero, sign)) }
     }
 }
 
 // Whether an operator takes a state: `&&` where the condition is to hold, `||` where it is to fail.
-fn takes_state(sign: bool, or: bool) -> bool
-    ensures { result ≡ takes or sign }
+fn takes_state(sign: bool, operator: Operator) -> bool
+    ensures { result ≡ takes (is_or operator) sign }
 {
-    if or { !sign } else { sign }
+    match operator {
+        Operator::And => sign,
+        Operator::Or => !sign,
+    }
 }
 
 // Where what stands before an operator is walked to, where what stands behind it is walked from, and the next state to be
@@ -191,82 +128,96 @@ struct Course {
     next: usize,
 }
 
-fn way(place: Place, to: usize, taking: bool) -> Course
-    requires { place.next ≤ 128 }
-    ensures { Leads taking to place result }
+fn way(state: usize, next: usize, to: usize, taking: bool) -> Course
+    requires { next ≤ 128 }
+    ensures { Leads taking to state next result }
 {
     if taking {
         Course {
-            to: place.next,
-            from: place.next,
-            next: place.next + 1,
+            to: next,
+            from: next,
+            next: next + 1,
         }
     } else {
         Course {
             to,
-            from: place.state,
-            next: place.next,
+            from: state,
+            next,
         }
     }
 }
 
-// What `||` joins, or, if `or` is false, what `&&` joins. Both group to the right.
-#[cycle(walk)]
-fn emit_chain(text: &[u8], out: &mut [u8], place: Place, to: usize, sign: bool, or: bool) -> Place
-    requires { Ready (WalkTask (joins or) to sign) text.now out.old place }
-    ensures { Emits (WalkTask (joins or) to sign) text.now out.old out.new place result }
-{
-    if operator_ahead(text, place.at, or) {
-        let w = way(place, to, takes_state(sign, or));
-        let start = Place {
-            at: place.at,
-            state: place.state,
-            next: w.next,
-            row: place.row,
+impl Emitter<'_> {
+    // An atom, as the reader answers it. In a program that is known to have one here it is found.
+    fn emit_atom(&mut self, to: usize, sign: bool)
+        requires { Ready (AtomTask to sign) self.old }
+        ensures { Emits (AtomTask to sign) self.old self.new }
+    {
+        let Ok(AtomRead { atom, at }) = atoms::atom_at(self.cursor.text, self.cursor.at) else {
+            unreachable!()
         };
-        let first = emit_side(text, out, start, w.to, sign, or);
-        let behind = Place {
-            at: past(text, first.at, 1),
-            state: w.from,
-            next: first.next,
-            row: first.row,
-        };
-        let last = emit_chain(text, out, behind, to, sign, or);
-        Place {
-            at: last.at,
-            state: place.state,
-            next: last.next,
-            row: last.row,
-        }
-    } else {
-        emit_side(text, out, place, to, sign, or)
+        self.row = rows(self.out, self.row, self.state, to, atom, sign);
+        self.cursor.at = at;
     }
-}
 
-// A condition in its own parentheses: its rows from the place's state to `yes`, and those of its negation to `no`.
-pub fn emit_condition(text: &[u8], out: &mut [u8], place: Place, yes: usize, no: usize) -> Place
-    requires { Ready (TestTask yes no) text.now out.old place }
-    ensures { Emits (TestTask yes no) text.now out.old out.new place result }
-{
-    let inside = past(text, place.at, 1);
-    let start = Place {
-        at: inside,
-        state: place.state,
-        next: place.next,
-        row: place.row,
-    };
-    let holding = emit_chain(text, out, start, yes, true, true);
-    let again = Place {
-        at: inside,
-        state: holding.state,
-        next: holding.next,
-        row: holding.row,
-    };
-    let failing = emit_chain(text, out, again, no, false, true);
-    Place {
-        at: past(text, failing.at, 1),
-        state: failing.state,
-        next: failing.next,
-        row: failing.row,
+    // What binds tightest: an atom, a negation, a condition in parentheses.
+    #[cycle(walk)]
+    fn emit_operand(&mut self, to: usize, sign: bool)
+        requires { Ready (WalkTask tightest to sign) self.old }
+        ensures { Emits (WalkTask tightest to sign) self.old self.new }
+    {
+        if self.cursor.eat_sign(Sign::Not) {
+            self.emit_operand(to, !sign);
+        } else if self.cursor.eat_sign(Sign::OpenParen) {
+            self.emit_chain(to, sign, Operator::Or);
+            self.cursor.skip(1);
+        } else {
+            self.emit_atom(to, sign);
+        }
+    }
+
+    // What an operator joins: of `||` what `&&` joins, of `&&` what binds tightest.
+    #[cycle(walk)]
+    fn emit_side(&mut self, to: usize, sign: bool, operator: Operator)
+        requires { Ready (WalkTask (joined (is_or operator)) to sign) self.old }
+        ensures { Emits (WalkTask (joined (is_or operator)) to sign) self.old self.new }
+    {
+        match operator {
+            Operator::And => self.emit_operand(to, sign),
+            Operator::Or => self.emit_chain(to, sign, Operator::And),
+        }
+    }
+
+    // What an operator joins with others of it, which group to the right, or one side alone.
+    #[cycle(walk)]
+    fn emit_chain(&mut self, to: usize, sign: bool, operator: Operator)
+        requires { Ready (WalkTask (joins (is_or operator)) to sign) self.old }
+        ensures { Emits (WalkTask (joins (is_or operator)) to sign) self.old self.new }
+    {
+        if self.cursor.operator_ahead(operator) {
+            let from = self.state;
+            let course = way(from, self.next, to, takes_state(sign, operator));
+            self.next = course.next;
+            self.emit_side(course.to, sign, operator);
+            self.cursor.skip(1);
+            self.state = course.from;
+            self.emit_chain(to, sign, operator);
+            self.state = from;
+        } else {
+            self.emit_side(to, sign, operator);
+        }
+    }
+
+    // A condition in its own parentheses: its rows from the state to `yes`, and those of its negation to `no`.
+    pub fn emit_condition(&mut self, yes: usize, no: usize)
+        requires { Ready (TestTask yes no) self.old }
+        ensures { Emits (TestTask yes no) self.old self.new }
+    {
+        self.cursor.skip(1);
+        let inside = self.cursor;
+        self.emit_chain(yes, true, Operator::Or);
+        self.cursor = inside;
+        self.emit_chain(no, false, Operator::Or);
+        self.cursor.skip(1);
     }
 }

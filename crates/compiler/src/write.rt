@@ -1,32 +1,21 @@
 // The bytes of an image as they are written: the header, the rows one behind the other, a bit for each accepting state.
 // What stands there already is read back from it: the letters.
-ghost use Rattle.std.specs.Prelude.{◌+◌, ◌≤◌, ◌<◌, ◌/◌, ◌%◌, ◌≡◌, [], ◌∷◌, length};
-ghost use Rattle.table.specs.Image.{flag};
+ghost use Rattle.std.specs.Prelude.{◌+◌, ◌≤◌, ◌<◌, ◌≡◌, [], ◌∷◌, length};
+ghost use Rattle.table.specs.Image.{two_bytes};
+ghost use Rattle.table.specs.RowCode.{row_is};
 ghost use Rattle.construction.specs.Compile.{image_room};
 ghost use Rattle.construction.specs.Construction.{test_row, free, index_in};
 ghost use Rattle.bits.specs.Inside.Over.{over};
 ghost use Rattle.compiler.specs.Inside.Writing.{Held, Room, Writes, Marks, Heads, Indexes, Counts};
 
-use table::form;
+use table::{Row, form};
 
 // The two bytes of a number.
-fn high(n: usize) -> u8
+fn two_bytes(n: usize) -> [u8; 2]
     requires { n < 65536 }
-    ensures { result ≡ n / 256 }
+    ensures { result ≡ two_bytes n }
 {
-    (n / 256) as u8
-}
-
-fn low(n: usize) -> u8
-    ensures { result ≡ n % 256 }
-{
-    (n % 256) as u8
-}
-
-fn flag_of(decr_on_zero: bool) -> u8
-    ensures { result ≡ flag decr_on_zero }
-{
-    if decr_on_zero { 1 } else { 0 }
+    (n as u16).to_be_bytes()
 }
 
 // These bytes from this place on.
@@ -45,68 +34,31 @@ pub fn header(out: &mut [u8], count: usize, decr_on_zero: bool, states: usize, r
     requires { (count ≤ 16) × (states ≤ 128) × (rows ≤ 1024) × (image_room ≤ length out.old) }
     ensures { Heads out.old out.new count decr_on_zero states rows }
 {
-    let front = [1, 0, 1, form::FIRST_EDITION, 2, 0, low(count)];
-    put(out, 0, &front);
-    let size = form::ROW_BYTES * rows;
-    let back = [
-        3,
-        0,
-        1,
-        flag_of(decr_on_zero),
-        4,
-        0,
-        2,
-        high(states),
-        low(states),
-        5,
-        0,
-        ACCEPTING,
-        0,
-        0,
-        0,
-        0,
-        0,
-        0,
-        0,
-        0,
-        0,
-        0,
-        0,
-        0,
-        0,
-        0,
-        0,
-        0,
-        6,
-        high(size),
-        low(size),
-    ];
-    put(out, count + form::DECR_ON_ZERO_TAG, &back);
+    let [_, letters] = two_bytes(count);
+    put(out, 0, &[1, 0, 1, form::FIRST_EDITION, 2, 0, letters]);
+    let at = count + form::DECR_ON_ZERO_TAG;
+    let [high, low] = two_bytes(states);
+    let flag = u8::from(decr_on_zero);
+    put(
+        out,
+        at,
+        &[3, 0, 1, flag, 4, 0, 2, high, low, 5, 0, ACCEPTING],
+    );
+    let accepting = count + form::ACCEPTING_PLACE;
+    put(out, accepting, &[0; form::ACCEPTING_BYTES]);
+    let [high, low] = two_bytes(form::ROW_BYTES * rows);
+    put(out, count + form::ROWS_TAG, &[6, high, low]);
 }
 
 // A row. The next one is written where it ends.
-pub fn row(
-    out: &mut [u8],
-    at: usize,
-    from: usize,
-    symbol: u8,
-    test: u8,
-    motion: u8,
-    change: u8,
-    to: usize,
-) -> usize
-    requires { Room out.old at (λ _. record { from = from; symbol = symbol; test = test; move = motion; change = change; to = to } ∷ []) × (from ≤ 128) × (to ≤ 128) }
-    ensures { Writes out.old out.new at result (λ _. record { from = from; symbol = symbol; test = test; move = motion; change = change; to = to } ∷ []) }
+pub fn row(out: &mut [u8], at: usize, row: Row) -> usize
+    requires { Room out.old at (λ _. row_is row ∷ []) × (row.from ≤ 128) × (row.to ≤ 128) }
+    ensures { Writes out.old out.new at result (λ _. row_is row ∷ []) }
 {
+    let [from_high, from_low] = two_bytes(row.from);
+    let [to_high, to_low] = two_bytes(row.to);
     let bytes = [
-        high(from),
-        low(from),
-        symbol,
-        test,
-        motion,
-        change,
-        high(to),
-        low(to),
+        from_high, from_low, row.symbol, row.test, row.motion, row.change, to_high, to_low,
     ];
     put(out, at, &bytes);
     at + form::ROW_BYTES
@@ -117,16 +69,15 @@ pub fn test_row(out: &mut [u8], at: usize, from: usize, symbol: u8, test: u8, to
     requires { Room out.old at (λ _. test_row symbol test from to ∷ []) × (from ≤ 128) × (to ≤ 128) }
     ensures { Writes out.old out.new at result (λ _. test_row symbol test from to ∷ []) }
 {
-    row(
-        out,
-        at,
+    let row = Row {
         from,
         symbol,
         test,
-        form::NO_MOVE,
-        form::NO_CHANGE,
+        motion: form::NO_MOVE,
+        change: form::NO_CHANGE,
         to,
-    )
+    };
+    self::row(out, at, row)
 }
 
 // A row that is free.
@@ -150,12 +101,7 @@ fn find(bytes: &[u8], byte: u8) -> usize
     ensures index { result ≡ index_in bytes.now byte }
     ensures inside { result ≤ length bytes.now }
 {
-    for (i, b) in bytes.iter().enumerate() {
-        if *b == byte {
-            return i;
-        }
-    }
-    bytes.len()
+    bytes.iter().position(|b| *b == byte).unwrap_or(bytes.len())
 }
 
 // A letter's index among them.

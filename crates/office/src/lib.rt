@@ -3,18 +3,12 @@
 
 ghost use Rattle.construction.specs.Compile.{CompilesTo};
 
-use construction::Answer;
-
 #[unsafe(no_mangle)]
 pub extern "C" fn valaiyoth_compile(text: &[u8], image: &mut [u8]) -> u64
     ensures { CompilesTo text.now image.old image.new result }
 {
     match compiler::compile(text, image) {
-        Answer::Compiled {
-            bytes,
-            states: _,
-            rows: _,
-        } => bytes as u64,
-        Answer::Refused { number, place } => number as u64 * 1000000 + place as u64,
+        Ok(sizes) => sizes.bytes as u64,
+        Err(r) => u64::from(r.reason.number()) * 1000000 + r.place as u64,
     }
 }

@@ -34,7 +34,8 @@ use Rattle.construction.specs.Construction.{
 }
 use Rattle.compiler.specs.Inside.Writing.{Sheet, Filled, Writes}
 use Rattle.compiler.specs.Inside.Seeing.{Here, GoesPast}
-use Rattle.compiler.specs.declared.Place.{Place}
+use Rattle.compiler.specs.Inside.Place.{Place, place_of}
+use Rattle.compiler.specs.declared.Emitter.{Emitter}
 use Rattle.compiler.specs.declared.walk.Course.{Course}
 
 -- the emitter stands at a place: so much is written, these states are meant, and these tokens are ahead
@@ -56,7 +57,7 @@ pub record Doing (task : Task) (text out : List ℕ) (place : Place) (h : Sheet)
   pub states : part.next ≤ 128
   pub fits : length rows + length part.rows ≤ h.count
 
-pub record Ready (task : Task) (text out : List ℕ) (place : Place) : Type 0 where
+pub record Ready (task : Task) (e : Emitter) : Type 0 where
   pub sheet : Sheet
   pub accepting : List ℕ
   pub rows : List Row
@@ -65,18 +66,20 @@ pub record Ready (task : Task) (text out : List ℕ) (place : Place) : Type 0 wh
   pub ts : Ts
   pub us : Ts
   pub part : Part
-  pub doing : Doing task text out place sheet accepting rows from next ts us part
+  pub doing : Doing task e.cursor.text.now e.out.now (place_of e) sheet accepting rows from next ts us part
 
 -- it is done: the text goes on behind it, and its part is written behind what stood there
 pub record Emitted (text out : List ℕ) (place : Place) (h : Sheet) (accepting : List ℕ) (rows : List Row) (us : Ts) (part : Part) : Type 0 where
   pub stands : At text out place h (accepting ++ part.accepting) (rows ++ part.rows) part.exit part.next us
 
--- whatever the task was
-pub record Emits (task : Task) (text before after : List ℕ) (place r : Place) : Type 0 where
+-- whatever the task was, in the same text and the same buffer
+pub record Emits (task : Task) (e r : Emitter) : Type 0 where
   pub emits : {h : Sheet} {accepting : List ℕ} {rows : List Row} {p next : ℕ} {ts us : Ts} {part : Part}
-      → Doing task text before place h accepting rows p next ts us part
-      → Emitted text after r h accepting rows us part
-  pub onward : place.at ≤ r.at
+      → Doing task e.cursor.text.now e.out.now (place_of e) h accepting rows p next ts us part
+      → Emitted e.cursor.text.now r.out.now (place_of r) h accepting rows us part
+  pub onward : e.cursor.at ≤ r.cursor.at
+  pub text : r.cursor.text.now ≡ e.cursor.text.now
+  pub out : r.out.ghost_name ≡ e.out.ghost_name
 
 -- rows alone, which leave the state as it is
 abbrev pub rows_part : List Row → ℕ → ℕ → Part
@@ -135,10 +138,10 @@ abbrev pub via_next : Bool → ℕ → ℕ
 via_next true next = next + 1
 via_next false next = next
 
-pub record Leads (taking : Bool) (to : ℕ) (place : Place) (course : Course) : Type 0 where
-  pub first : course.to ≡ via_to taking to place.next
-  pub second : course.from ≡ via_from taking place.state place.next
-  pub takes : course.next ≡ via_next taking place.next
+pub record Leads (taking : Bool) (to state next : ℕ) (course : Course) : Type 0 where
+  pub first : course.to ≡ via_to taking to next
+  pub second : course.from ≡ via_from taking state next
+  pub takes : course.next ≡ via_next taking next
 
 -- a condition in its own parentheses, both ways
 pub data TestTask (yes no : ℕ) (alphabet : List ℕ) (p next : ℕ) : Ts → Ts → Part → Type 0 where
@@ -180,19 +183,23 @@ abbrev pub step_row : ℕ → ℕ → ℕ → ℕ → Row
 step_row motion change p q =
     record { from = p; symbol = any_symbol; test = either_counter; move = motion; change = change; to = q }
 
--- it is written, and the text goes on behind so many tokens from a place on
-pub record WritesStep (text before after : List ℕ) (place : Place) (from many motion change : ℕ) (r : Place) : Type 0 where
-  pub passes : GoesPast text from many r.at
-  pub state : r.state ≡ place.next
-  pub takes : r.next ≡ place.next + 1
-  pub writes : Writes before after place.row r.row (λ _. step_row motion change place.state place.next ∷ [])
+-- it is written, and the text goes on behind so many tokens
+pub record Steps (e r : Emitter) (motion change many : ℕ) : Type 0 where
+  pub passes : GoesPast e.cursor.text.now e.cursor.at many r.cursor.at
+  pub state : r.state ≡ e.next
+  pub takes : r.next ≡ e.next + 1
+  pub writes : Writes e.out.now r.out.now e.row r.row (λ _. step_row motion change e.state e.next ∷ [])
+  pub text : r.cursor.text.now ≡ e.cursor.text.now
+  pub out : r.out.ghost_name ≡ e.out.ghost_name
 
 -- a state is taken without a row
-pub record Stops (text : List ℕ) (place r : Place) : Type 0 where
-  pub passes : GoesPast text place.at 1 r.at
-  pub state : r.state ≡ place.next
-  pub takes : r.next ≡ place.next + 1
-  pub row : r.row ≡ place.row
+pub record Stops (e r : Emitter) : Type 0 where
+  pub passes : GoesPast e.cursor.text.now e.cursor.at 1 r.cursor.at
+  pub state : r.state ≡ e.next
+  pub takes : r.next ≡ e.next + 1
+  pub row : r.row ≡ e.row
+  pub text : r.cursor.text.now ≡ e.cursor.text.now
+  pub out : r.out ≡ e.out
 
 -- what is left of a block
 pub data RestTask (alphabet : List ℕ) (p next : ℕ) : Ts → Ts → Part → Type 0 where

@@ -6,24 +6,30 @@ use Rattle.text.specs.Tokens.{Placed, ◌at◌}
 use Rattle.text.specs.declared.Sign.{Sign}
 use Rattle.text.specs.Inside.Same.{same_token}
 use Rattle.compiler.specs.Inside.Seeing.{Here}
-use Rattle.compiler.specs.declared.ahead.Looked.{Looked}
-use Rattle.compiler.specs.declared.ahead.Looked.TheVariants.{Answer, On}
+use Rattle.std.specs.declared.ops.ControlFlow.{ControlFlow}
+use Rattle.std.specs.declared.ops.ControlFlow.TheVariants.{Continue, Break}
+use Rattle.compiler.specs.declared.ahead.Operator.{Operator}
 
 -- what counts: parentheses and operators
 pub data Bracketing : Type 0 where
   opening closing and or other : Bracketing
 
+-- the operator sought is `||`, or else `&&`
+abbrev pub is_or : Operator → Bool
+is_or Operator.And = false
+is_or Operator.Or = true
+
 -- what a mark says of the operator sought, `||` or else `&&`, with so many parentheses open
-unfoldable pub look_at : Bracketing → ℕ → Bool → Looked
-look_at opening depth sought = On (suc depth)
-look_at closing zero sought = Answer false
-look_at closing (suc depth) sought = On depth
-look_at or zero sought = Answer sought
-look_at or (suc depth) sought = On (suc depth)
-look_at and zero true = On zero
-look_at and zero false = Answer true
-look_at and (suc depth) sought = On (suc depth)
-look_at other depth sought = On depth
+unfoldable pub look_at : Bracketing → ℕ → Bool → ControlFlow Bool ℕ
+look_at opening depth sought = Continue (suc depth)
+look_at closing zero sought = Break false
+look_at closing (suc depth) sought = Continue depth
+look_at or zero sought = Break sought
+look_at or (suc depth) sought = Continue (suc depth)
+look_at and zero true = Continue zero
+look_at and zero false = Break true
+look_at and (suc depth) sought = Continue (suc depth)
+look_at other depth sought = Continue depth
 
 abbrev pub mark_of : Sign → Bracketing
 mark_of Sign.Becomes = other
@@ -57,9 +63,9 @@ marked t =
     ]
 
 -- go on, or answer
-abbrev pub onward : Looked → (ℕ → Bool) → Bool
-onward (Answer found) more = found
-onward (On depth) more = more depth
+abbrev pub onward : ControlFlow Bool ℕ → (ℕ → Bool) → Bool
+onward (Break found) more = found
+onward (Continue depth) more = more depth
 
 -- whether the operator comes next, before the parenthesis that closes what stands here
 unfoldable pub ahead : Bool → ℕ → List Placed → Bool

@@ -1,20 +1,22 @@
 -- What the emitter's functions promise each other of the settings, and of the whole image. No caller relies on any of it.
-use Rattle.std.specs.Prelude.{ℕ, ◌≤◌, ◌≡◌, Bool, List, [], ◌∷◌, ◌++◌, length, drop}
+use Rattle.std.specs.Prelude.{ℕ, ◌≤◌, ◌≡◌, Bool, List, [], ◌∷◌, ◌++◌, length, drop, true, false}
+use Rattle.std.specs.Borrow.{MutBor}
 use Rattle.text.specs.Token.{w, s}
 use Rattle.text.specs.Tokens.{◌at◌}
 use Rattle.table.specs.Form.{letters_place}
 use Rattle.table.specs.Image.{encode}
 use Rattle.rule.specs.Tree.{Letter, Order, Program, letter_bytes}
-use Rattle.rule.specs.Grammar.{Ts, IsLetters, IsDecrement, IsSettings}
+use Rattle.rule.specs.Grammar.{Ts, IsLetters, IsSettings}
 use Rattle.rule.specs.Faults.{Reads}
 use Rattle.construction.specs.Construction.{program_part, construct}
 use Rattle.construction.specs.Compile.{image_room}
 use Rattle.bits.specs.Inside.Over.{over}
 use Rattle.compiler.specs.Inside.Writing.{Sheet}
 use Rattle.compiler.specs.Inside.Seeing.{Here}
+use Rattle.compiler.specs.Inside.Place.{place_of}
 use Rattle.compiler.specs.Inside.Emission.{Doing, RestTask}
-use Rattle.compiler.specs.declared.Place.{Place}
-use Rattle.compiler.specs.declared.settings.Listed.{Listed}
+use Rattle.compiler.specs.declared.Emitter.{Emitter}
+use Rattle.compiler.specs.declared.see.Cursor.{Cursor}
 use Rattle.compiler.specs.declared.settings.Settled.{Settled}
 
 -- letters stand from a place on, up to the `]`, and there is room for them
@@ -25,50 +27,66 @@ pub record LettersAt (text : List ℕ) (from : ℕ) (out : List ℕ) (ts us : Ts
   pub few : length l ≤ 16
   pub room : image_room ≤ length out
 
-pub record Letters (text : List ℕ) (from : ℕ) (out : List ℕ) : Type 0 where
+pub record Letters (k : Cursor) (out : List ℕ) : Type 0 where
   pub ts : Ts
   pub us : Ts
   pub l : List Letter
-  pub stand : LettersAt text from out ts us l
+  pub stand : LettersAt k.text.now k.at out ts us l
 
 -- the image has them, and the text goes on behind the `]`
-pub record Listing (text before after : List ℕ) (us : Ts) (l : List Letter) (r : Listed) : Type 0 where
-  pub here : Here text r.at us
+pub record Listing (text before after : List ℕ) (end : ℕ) (us : Ts) (l : List Letter) (many : ℕ) : Type 0 where
+  pub here : Here text end us
   pub bytes : after ≡ over before letters_place (letter_bytes l)
-  pub count : r.count ≡ length l
+  pub count : many ≡ length l
 
-pub record Lists (text : List ℕ) (from : ℕ) (before after : List ℕ) (r : Listed) : Type 0 where
-  pub lists : {ts us : Ts} {l : List Letter} → LettersAt text from before ts us l → Listing text before after us l r
+pub record Lists (k r : Cursor) (before after : List ℕ) (many : ℕ) : Type 0 where
+  pub lists : {ts us : Ts} {l : List Letter} → LettersAt k.text.now k.at before ts us l → Listing k.text.now before after r.at us l many
+  pub text : r.text.now ≡ k.text.now
 
--- what stands behind `decr_on_zero`
-pub record Tells (text : List ℕ) (from : ℕ) (r : Bool) : Type 0 where
-  pub tells : {q v : ℕ} {ts us : Ts} {d : Bool} → Here text from ts → IsDecrement ((w "decr_on_zero" at q) ∷ ts) d v us → r ≡ d
+-- what `decr_on_zero` is, behind its `=`, and a `;`
+pub data TruthAt : Ts → Bool → Ts → Type 0 where
+  yes_at : {p q : ℕ} {us : Ts} → TruthAt ((w "true" at p) ∷ (s ";" at q) ∷ us) true us
+  no_at : {p q : ℕ} {us : Ts} → TruthAt ((w "false" at p) ∷ (s ";" at q) ∷ us) false us
+
+pub record AtTruth (k : Cursor) : Type 0 where
+  pub ts : Ts
+  pub us : Ts
+  pub d : Bool
+  pub here : Here k.text.now k.at ts
+  pub is : TruthAt ts d us
+
+pub record Tells (k r : Cursor) (told : Bool) : Type 0 where
+  pub tells : {ts us : Ts} {d : Bool} → Here k.text.now k.at ts → TruthAt ts d us → (told ≡ d) × Here k.text.now r.at us
+  pub text : r.text.now ≡ k.text.now
 
 -- the text begins with settings, and there is room for their letters
-pub record SettingsAt (text out : List ℕ) (ts us : Ts) (l : List Letter) (d : Bool) : Type 0 where
-  pub here : Here text 0 ts
+pub record SettingsAt (text : List ℕ) (from : ℕ) (out : List ℕ) (ts us : Ts) (l : List Letter) (d : Bool) : Type 0 where
+  pub here : Here text from ts
   pub first : Order
   pub truth : ℕ
   pub settings : IsSettings ts first l d truth us
   pub few : length l ≤ 16
   pub room : image_room ≤ length out
 
-pub record Settings (text out : List ℕ) : Type 0 where
+pub record Settings (k : Cursor) (out : List ℕ) : Type 0 where
   pub ts : Ts
   pub us : Ts
   pub l : List Letter
   pub d : Bool
-  pub stand : SettingsAt text out ts us l d
+  pub stand : SettingsAt k.text.now k.at out ts us l d
 
 -- they are read, and the image has the letters
-pub record Settling (text before after : List ℕ) (us : Ts) (l : List Letter) (d : Bool) (r : Settled) : Type 0 where
-  pub here : Here text r.at us
+pub record Settling (text before after : List ℕ) (end : ℕ) (us : Ts) (l : List Letter) (d : Bool) (r : Settled) : Type 0 where
+  pub here : Here text end us
   pub bytes : after ≡ over before letters_place (letter_bytes l)
   pub count : r.count ≡ length l
   pub decr_on_zero : r.decr_on_zero ≡ d
 
-pub record Settles (text before after : List ℕ) (r : Settled) : Type 0 where
-  pub settles : {ts us : Ts} {l : List Letter} {d : Bool} → SettingsAt text before ts us l d → Settling text before after us l d r
+pub record Settles (k r : Cursor) (before after : List ℕ) (settled : Settled) : Type 0 where
+  pub settles : {ts us : Ts} {l : List Letter} {d : Bool}
+      → SettingsAt k.text.now k.at before ts us l d
+      → Settling k.text.now before after r.at us l d settled
+  pub text : r.text.now ≡ k.text.now
 
 -- the text is this program, with so many states and rows, and there is room for its image
 pub record Fits (text out : List ℕ) (states rows : ℕ) (p : Program) : Type 0 where
@@ -89,12 +107,13 @@ sheet_of old states rows p =
     record { old = old; alphabet = letter_bytes p.alphabet; decr_on_zero = p.decr_on_zero; states = states; count = rows }
 
 -- the header is written, and what is left of the outermost block is to be emitted from state 0 on
-pub record Beginning (text before after : List ℕ) (states rows : ℕ) (p : Program) (r : Place) : Type 0 where
+pub record Beginning (text before : List ℕ) (states rows : ℕ) (p : Program) (e : Emitter) : Type 0 where
   pub ts : Ts
-  pub doing : Doing RestTask text after r (sheet_of before states rows p) [] [] 0 1 ts [] (program_part p)
+  pub doing : Doing RestTask e.cursor.text.now e.out.now (place_of e) (sheet_of before states rows p) [] [] 0 1 ts [] (program_part p)
 
-pub record Begins (text before after : List ℕ) (states rows : ℕ) (r : Place) : Type 0 where
-  pub begins : {p : Program} → Fits text before states rows p → Beginning text before after states rows p r
+pub record Begins (text : List ℕ) (buffer : MutBor (List ℕ)) (states rows : ℕ) (e : Emitter) : Type 0 where
+  pub begins : {p : Program} → Fits text buffer.now states rows p → Beginning text buffer.now states rows p e
+  pub out : e.out.ghost_name ≡ buffer.ghost_name
 
 -- the image stands at the buffer's beginning, and its length is this
 pub record Image (before after : List ℕ) (p : Program) (bytes : ℕ) : Type 0 where

@@ -1,35 +1,77 @@
--- Which word comes first says in which order the settings stand. Assumes nothing.
-use Rattle.compiler.proofs.Setting.{letters_first, letters_last, settled_first, settled_last}
-use borrow.Enum.Refused.{opened}
+-- Which word comes first says in which order the settings stand.
+use mathlib.Core.Path.{◌∙◌}
+use Rattle.compiler.proofs.Seeing.{passes_in, skips_from}
+use Rattle.compiler.proofs.Setting.{letters_first, letters_last, letters_in, lists_in, truth_in, tells_in, truth_first, settled_first, letters_then, settled_last}
 use Rattle.compiler.proofs.settings.emit_settings.Goals as goal
 
-pub letters-listed-requires : goal.letters-listed-requires
-letters-listed-requires c =
-    let f = letters_first c.see-t.ensures c.in-Alphabet.is c.past.ensures c.requires.stand in
-    record { ts = _; us = _; l = _; stand = f.stand }
+pub letters-count-requires : goal.letters-count-requires
+letters-count-requires c =
+    let eats = c.eat_word.ensures in
+    let hit = eats.hit c.if-eat_word.true in
+    let skips = c.skip.ensures in
+    let text = skips.text ∙ eats.text in
+    letters_in text (letters_first hit (passes_in eats.text skips) c.requires.stand).stand
 
-pub letters-listed-requires-in_default : goal.letters-listed-requires-in_default
-letters-listed-requires-in_default c =
-    let f = letters_last c.see-t.ensures (opened c.in_default.in_default-own.keys2) c.past-in_default.ensures c.requires.stand in
-    record { ts = _; us = _; l = _; stand = f.stand }
+pub truth-decr_on_zero-requires : goal.truth-decr_on_zero-requires
+truth-decr_on_zero-requires c =
+    let eats = c.eat_word.ensures in
+    let hit = eats.hit c.if-eat_word.true in
+    let skips = c.skip.ensures in
+    let text = skips.text ∙ eats.text in
+    let f = letters_first hit (passes_in eats.text skips) c.requires.stand in
+    let lists = c.letters-count.ensures in
+    let pass = passes_in (lists.text ∙ text) c.skip-then-eat_word.ensures in
+    truth_in (c.skip-then-eat_word.ensures.text ∙ lists.text ∙ text) (truth_first f (lists_in text lists f.stand) pass) f.truth
 
-pub returns-in-Alphabet : goal.returns-in-Alphabet
-returns-in-Alphabet c =
-    let lists = c.letters-listed.ensures in
-    let sees = c.see-t.ensures in
-    let first = c.in-Alphabet.is in
+pub returns-then-eat_word : goal.returns-then-eat_word
+returns-then-eat_word c =
+    let eats = c.eat_word.ensures in
+    let hit = eats.hit c.if-eat_word.true in
+    let skips = c.skip.ensures in
+    let text = skips.text ∙ eats.text in
+    let lists = c.letters-count.ensures in
+    let pass = passes_in (lists.text ∙ text) c.skip-then-eat_word.ensures in
+    let behind = c.skip-then-eat_word.ensures.text ∙ lists.text ∙ text in
+    let tells = c.truth-decr_on_zero.ensures in
     record {
       settles = λ a.
-          settled_first lists (letters_first sees first c.past.ensures a) c.past-behind.ensures c.past-in-Alphabet.ensures
-          c.truth.ensures;
+          let f = letters_first hit (passes_in eats.text skips) a in
+          let listing = lists_in text lists f.stand in
+          settled_first f listing pass (tells_in behind tells (truth_first f listing pass) f.truth);
+      text = tells.text ∙ behind;
     }
 
-pub returns-in_default : goal.returns-in_default
-returns-in_default c =
-    let lists = c.letters-listed-in_default.ensures in
-    let sees = c.see-t.ensures in
-    let other = (opened c.in_default.in_default-own.keys2) in
+pub truth-decr_on_zero-requires-else-eat_word : goal.truth-decr_on_zero-requires-else-eat_word
+truth-decr_on_zero-requires-else-eat_word c =
+    let miss = c.eat_word.ensures.miss c.if-eat_word.false in
+    let skips = skips_from miss.1 c.skip-else-eat_word.ensures in
+    let f = letters_last miss.0 skips.passes c.requires.stand in
+    truth_in skips.text f.here f.truth
+
+pub letters-count-requires-else-eat_word : goal.letters-count-requires-else-eat_word
+letters-count-requires-else-eat_word c =
+    let miss = c.eat_word.ensures.miss c.if-eat_word.false in
+    let skips = skips_from miss.1 c.skip-else-eat_word.ensures in
+    let f = letters_last miss.0 skips.passes c.requires.stand in
+    let tells = c.truth-decr_on_zero-else-eat_word.ensures in
+    let text = tells.text ∙ skips.text in
+    letters_in (c.skip-else-eat_word-2.ensures.text ∙ text)
+    (letters_then f (tells_in skips.text tells f.here f.truth).1 (passes_in text c.skip-else-eat_word-2.ensures))
+
+pub returns-else-eat_word : goal.returns-else-eat_word
+returns-else-eat_word c =
+    let miss = c.eat_word.ensures.miss c.if-eat_word.false in
+    let skips = skips_from miss.1 c.skip-else-eat_word.ensures in
+    let tells = c.truth-decr_on_zero-else-eat_word.ensures in
+    let text = tells.text ∙ skips.text in
+    let opens = passes_in text c.skip-else-eat_word-2.ensures in
+    let inner = c.skip-else-eat_word-2.ensures.text ∙ text in
+    let lists = c.letters-count-else-eat_word.ensures in
+    let behind = lists.text ∙ inner in
     record {
       settles = λ a.
-          settled_last lists (letters_last sees other c.past-in_default.ensures a) c.past-in_default-2.ensures c.truth-in_default.ensures;
+          let f = letters_last miss.0 skips.passes a in
+          let told = tells_in skips.text tells f.here f.truth in
+          settled_last f told.0 (lists_in inner lists (letters_then f told.1 opens)) (passes_in behind c.skip-else-eat_word-3.ensures);
+      text = c.skip-else-eat_word-3.ensures.text ∙ behind;
     }

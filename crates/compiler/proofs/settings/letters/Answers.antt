@@ -1,41 +1,50 @@
--- The loop's invariant: the letters so far are in the image. Assumes nothing.
+-- The loop's invariant: the letters so far are in the image.
 use native.Mathlib.Omega.{arith}
-use mathlib.Core.Path.{refl}
+use mathlib.Core.Path.{refl, ◌∙◌}
 use lib.ListN.{length-set}
-use Rattle.compiler.proofs.Setting.{so_far_none, so_far_room, so_far_more, so_far_all}
-use borrow.Enum.Refused.{opened}
+use Rattle.compiler.proofs.Seeing.{sign_in_text, no_sign_in_text, skips_from, passes_in}
+use Rattle.compiler.proofs.Setting.{so_far_none, so_far_letter, so_far_room, letter_read_in, so_far_more, so_far_all}
 use Rattle.compiler.proofs.settings.letters.Goals as goal
 
-pub loop-init : goal.loop-init
-loop-init c = (refl, record { lists = λ a. so_far_none a })
+pub loop-cursor-init : goal.loop-cursor-init
+loop-cursor-init c = (refl, refl, record { lists = λ a. so_far_none a })
+
+pub letter-requires : goal.letter-requires
+letter-requires c =
+    let i = c.loop-cursor.invariant in
+    so_far_letter i.1 (i.2.lists c.requires.stand)
 
 pub overflow_add-out : goal.overflow_add-out
-overflow_add-out c = omega (arith, so_far_room c.requires.stand (c.loop.invariant.1.lists c.requires.stand))
+overflow_add-out c = omega (arith, so_far_room c.requires.stand (c.loop-cursor.invariant.2.lists c.requires.stand))
 
 pub bounds-out-count : goal.bounds-out-count
-bounds-out-count c = (so_far_room c.requires.stand (c.loop.invariant.1.lists c.requires.stand)).1
+bounds-out-count c = (so_far_room c.requires.stand (c.loop-cursor.invariant.2.lists c.requires.stand)).1
 
 pub overflow_add-count : goal.overflow_add-count
-overflow_add-count c = omega (arith, so_far_room c.requires.stand (c.loop.invariant.1.lists c.requires.stand))
+overflow_add-count c = omega (arith, so_far_room c.requires.stand (c.loop-cursor.invariant.2.lists c.requires.stand))
 
-pub loop-smaller : goal.loop-smaller
-loop-smaller c = omega (arith, so_far_room c.requires.stand (c.loop.invariant.1.lists c.requires.stand))
-
-pub loop-preserved : goal.loop-preserved
-loop-preserved c = (
-  simp length-set c.loop.invariant.0,
-  record {
-    lists = λ a.
-        so_far_more c.see-letter.ensures c.see-next.ensures a
-        (c.loop.invariant.1.lists a)
-        c.in-Comma.is;
-  },
-)
-
-pub returns-in_default : goal.returns-in_default
-returns-in_default c =
+pub returns-then-not-eat_sign : goal.returns-then-not-eat_sign
+returns-then-not-eat_sign c =
+    let i = c.loop-cursor.invariant in
+    let reads = letter_read_in i.1 c.letter.ensures in
+    let text = c.letter.ensures.text ∙ i.1 in
+    let miss = c.eat_sign.ensures.miss c.if-not-eat_sign.true in
+    let skips = skips_from miss.1 c.skip.ensures in
     record {
-      lists = λ a.
-          so_far_all c.see-letter.ensures c.see-next.ensures a (c.loop.invariant.1.lists a)
-          (opened c.in_default.in_default-own.keys2);
+      lists = λ a. so_far_all reads a (i.2.lists a) (no_sign_in_text text miss.0) (passes_in text skips);
+      text = skips.text ∙ text;
     }
+
+pub loop-cursor-smaller : goal.loop-cursor-smaller
+loop-cursor-smaller c = omega (arith, so_far_room c.requires.stand (c.loop-cursor.invariant.2.lists c.requires.stand))
+
+pub loop-cursor-preserved : goal.loop-cursor-preserved
+loop-cursor-preserved c =
+    let i = c.loop-cursor.invariant in
+    let reads = letter_read_in i.1 c.letter.ensures in
+    let text = c.letter.ensures.text ∙ i.1 in
+    let hit = sign_in_text text (c.eat_sign.ensures.hit c.if-not-eat_sign.false) in (
+      simp length-set i.0,
+      c.eat_sign.ensures.text ∙ text,
+      record { lists = λ a. so_far_more reads a (i.2.lists a) hit },
+    )

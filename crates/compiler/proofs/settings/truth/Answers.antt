@@ -1,12 +1,16 @@
--- Assumes nothing.
-use Rattle.compiler.proofs.Setting.{true_told, false_told}
-use borrow.Enum.Refused.{opened}
+use mathlib.Core.Path.{◌∙◌}
+use Rattle.compiler.proofs.Seeing.{passes_in}
+use Rattle.compiler.proofs.Setting.{truth_at_word, truth_behind, told_is}
 use Rattle.compiler.proofs.settings.truth.Goals as goal
 
-pub returns-in-True : goal.returns-in-True
-returns-in-True c =
-    record { tells = true_told c.past.ensures c.see-t.ensures c.in-True.is }
+pub word-requires : goal.word-requires
+word-requires c = truth_at_word c.requires
 
-pub returns-in_default : goal.returns-in_default
-returns-in_default c =
-    record { tells = false_told c.past.ensures c.see-t.ensures (opened c.in_default.in_default-own.keys2) }
+pub returns : goal.returns
+returns c =
+    let word = c.word.ensures in
+    let pass = passes_in word.text c.skip.ensures in
+    record {
+      tells = λ here is. (told_is word.seen pass c.eq-told.ensures here is, truth_behind word.seen pass here is);
+      text = c.skip.ensures.text ∙ word.text;
+    }

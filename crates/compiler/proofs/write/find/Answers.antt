@@ -1,11 +1,12 @@
 -- The index of the first that is the byte, or their number where none is.
-use native.Mathlib.Omega.{arith}
-use Rattle.compiler.proofs.Writing.{index_found, index_nowhere}
+use Prim.Native.Nat.{ℕ}
+use mathlib.Core.Path.{◌≡◌, ◌∙◌}
+use Rattle.std.proofs.Common.{rules, tests}
+use Rattle.std.proofs.lemmas.Iterator.{IsFirst-from_position, YieldsList-from_slice}
+use Rattle.compiler.proofs.Writing.{index_by}
 use Rattle.compiler.proofs.write.find.Goals as goal
 
-pub returns-then-b-byte-clause-index : goal.returns-then-b-byte-clause-index
-returns-then-b-byte-clause-index c =
-    index_found c.args.bytes.now c.args.byte c.loop-i.i c.loop-i-test.true c.loop-i.invariant c.if-b-byte.true
-
 pub returns-clause-index : goal.returns-clause-index
-returns-clause-index c = index_nowhere c.args.bytes.now c.args.byte (λ k low. c.loop-i.invariant k (omega arith))
+returns-clause-index c =
+    let first = IsFirst-from_position _ _ _ (λ (x : ℕ). x ≡ c.args.byte) (λ (x : ℕ). ¬ (x ≡ c.args.byte)) c.position.ensures.ran (YieldsList-from_slice c.args.bytes.now cc) (λ x q k. search (rules, tests)) (λ x q k. search (rules, tests)) in
+    c.unwrap_or.ensures ∙ index_by c.args.bytes.now c.args.byte c.position.result first

@@ -3,11 +3,6 @@ use native.Mathlib.Omega.{arith}
 use Rattle.compiler.proofs.Writing.{held_long, held_index}
 use Rattle.compiler.proofs.write.letter.Goals as goal
 
-pub overflow_add-end : goal.overflow_add-end
-overflow_add-end c =
-    let held = c.requires in
-    omega (arith, c.letters-end.ensures.counts held.holds, held.holds.few, held_long held.holds)
-
 pub slice_bounds-find-end : goal.slice_bounds-find-end
 slice_bounds-find-end c =
     let held = c.requires in
