@@ -1,2 +1,0 @@
--- Laws of bytes from a place on.
-pub mod Rest
