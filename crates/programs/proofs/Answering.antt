@@ -2,14 +2,14 @@
 use Prim.Native.Nat.{ℕ, ◌<◌}
 use native.Mathlib.Omega.{arith}
 use native.Mathlib.Decide.{dec_lt}
-use mathlib.Core.Path.{◌≡◌, refl, sym, ◌∙◌, subst}
+use mathlib.Core.Path.{◌≡◌, refl, sym, ap, ◌∙◌, subst}
 use mathlib.Core.Logic.{◌⊎◌, inl, inr}
-use mathlib.Core.Bool.{Bool, true, false}
+use mathlib.Core.Bool.{Bool, true, false, true≢false}
 use mathlib.Core.List.{List}
 use lib.ListN.{length, drop}
 use lib.Dec.{T}
 use Rattle.construction.specs.Compile.{Compiles}
-use Rattle.std.specs.Prelude.{Option, Some, None, Result, Ok, Err, IfSome}
+use Rattle.std.specs.Prelude.{Option, Some, None, Result, Ok, Err, IfSome, is_some}
 use Rattle.table.specs.declared.reason.Refusal.{Refusal}
 use Rattle.construction.specs.declared.Sizes.{Sizes}
 use Rattle.judgement.specs.declared.answer.Judged.{Judged}
@@ -21,7 +21,7 @@ use Rattle.judgement.specs.Judge.{Answers, answer_of}
 use Rattle.line.specs.CompileLine.{compile_line}
 use Rattle.line.specs.VerdictLine.{verdict_line}
 use Rattle.line.specs.Standing.{Stands}
-use Rattle.line.proofs.Standing.{IsPrefixLen, prefix_len_of_le, front_counts, stands_counts}
+use Rattle.line.proofs.Standing.{IsPrefixLen, front_counts, stands_counts}
 use Rattle.programs.specs.declared.Answered.{Answered}
 use Rattle.programs.specs.CompileText.{image_bytes, AnswersText}
 use Rattle.programs.specs.Limit.{SaysLimit}
@@ -93,5 +93,5 @@ word_counts {digits = digits} {line = line} {r = Some n} a = by_cases (limit_or_
   where
     by_cases : ((limit : ℕ) × SaysLimit digits limit) ⊎ ((limit : ℕ) → ¬ SaysLimit digits limit) → IsPrefixLen n line
     by_cases (inl (limit, says)) = stands_counts (a.answered limit says).stands
-    by_cases (inr none) = absurd (some_none (a.unsaid none).0)
+    by_cases (inr none) = absurd (true≢false (ap is_some (a.unsaid none).0))
 word_counts {r = None} a = tt
