@@ -95,3 +95,7 @@ word_counts {digits = digits} {line = line} {r = Some n} a = by_cases (limit_or_
     by_cases (inl (limit, says)) = stands_counts (a.answered limit says).stands
     by_cases (inr none) = absurd (true≢false (ap is_some (a.unsaid none).0))
 word_counts {r = None} a = tt
+
+pub image_counted : {text before after old line : List ℕ} {r : Answered} {n : ℕ} → AnswersText text before after old line r → r.«image» ≡ Some n
+    → IsPrefixLen n after
+image_counted {after = after} a some = subst (λ (o : Option ℕ). IfSome o (λ k. IsPrefixLen k after)) some (text_counts a).0
