@@ -37,7 +37,7 @@ fn stray_of(atom: Atom, letters: Letters) -> Option<usize>
 impl<'a> Reader<'a> {
     // An atom with its rows. A letter outside the alphabet is refused.
     fn atom(self, letters: Letters) -> Result<Reader<'a>, Refusal>
-        requires { OpensNothing self }
+        requires { OpensNothing self.text.now self.at }
         ensures { (n : ℕ) → ReadsOn self.entry (operand n ∷ []) [] (alphabet_of letters) result }
     {
         let read = atom_at(self.text, self.at)?;
