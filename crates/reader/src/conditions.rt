@@ -47,10 +47,8 @@ impl<'a> Reader<'a> {
                 place,
             });
         }
-        Ok(
-            self.onward(read.at)
-                .counting(0, rows_of(read.atom, letters.count)),
-        )
+        let behind = self.onward(read.at);
+        Ok(behind.counting(0, rows_of(read.atom, letters.count)))
     }
 
     // One operand.
