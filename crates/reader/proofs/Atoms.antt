@@ -44,7 +44,6 @@ use Rattle.atoms.specs.Atom.{
 }
 use Rattle.atoms.specs.Atom.{Read as AtomAnswer}
 use Rattle.reader.specs.Inside.Atoms.{behind, compared, OpensNothing, Tests}
-use Rattle.reader.specs.declared.answers.Reader.{Reader}
 use Rattle.reader.proofs.Taken.{unlike_class, untaken_lem}
 use Rattle.reader.proofs.Front.{class_of, front_word, front_number, front_letter, front_sign}
 use Rattle.reader.proofs.Missed.{Misses}
@@ -231,17 +230,17 @@ module _ {text : List ℕ} where
       by_cases (Token.Broken p) r f (other h) = test_refuses f (λ t p. tt) refl
 
 -- the whole atom
-pub atom_tests : {r : Reader} {u : AtomAnswer} → OpensNothing r → AtomAt r.text.now r.at u → (n : ℕ) → Tests r.text.now r.at (λ ts. ts) (operand n) u
-atom_tests {r} {u} none reads n =
+pub atom_tests : {text : List ℕ} {from : ℕ} {u : AtomAnswer} → OpensNothing text from → AtomAt text from u → (n : ℕ) → Tests text from (λ ts. ts) (operand n) u
+atom_tests {text} {from} {u} none reads n =
     let next = reads.right in
     by_cases next.token u next.first (unlike_class none.0 next.first) (unlike_class none.1 next.first) next.says
   where
     by_cases : (k : Token) (u : AtomAnswer)
-        → FirstToken r.text.now r.at k
-        → T (unlike Fixed.opens (class_of r.text.now k))
-        → T (unlike Fixed.not (class_of r.text.now k))
-        → Atom.Case IsTested (TestedSays r.text.now) k u
-        → Tests r.text.now r.at (λ ts. ts) (operand n) u
+        → FirstToken text from k
+        → T (unlike Fixed.opens (class_of text k))
+        → T (unlike Fixed.not (class_of text k))
+        → Atom.Case IsTested (TestedSays text) k u
+        → Tests text from (λ ts. ts) (operand n) u
     by_cases k u f opens not (stands (by_read {p = p}) second) = test_on (front_word f refl) _ (λ t. refl) (λ t. refl) (λ t. refl) (read_tests p second)
     by_cases k u f opens not (stands (by_c {p = p}) second) = test_on (front_word f refl) _ (λ t. refl) (λ t. refl) (λ t. refl) (counter_tests p second)
-    by_cases k u f opens not (other h) = test_missed f (λ t. test_missing r.text.now t n k opens not h) refl
+    by_cases k u f opens not (other h) = test_missed f (λ t. test_missing text t n k opens not h) refl

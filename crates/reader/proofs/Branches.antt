@@ -99,13 +99,13 @@ pub no_statement_word : (r : Reader) {d p q : ℕ} {a : List ℕ} {y : Stack} {k
 no_statement_word r {p = p} {q = q} {x = x} first e other is =
     refused (subst (λ (u : Token). FirstToken r.text.now r.at u) e first) is (word_missed r.text.now _ _ p q x other)
 
-pub no_statement : {r : Reader} {d : ℕ} {a : List ℕ} {y : Stack} {k : Token} {f : Refusal}
-    → Lacks Fixed.ends r
+pub no_statement : (r : Reader) {d : ℕ} {a : List ℕ} {y : Stack} {k : Token} {f : Refusal}
+    → Lacks Fixed.ends r.text.now r.at
     → FirstToken r.text.now r.at k
     → ((p q : ℕ) (x : Word) → ¬ (k ≡ Token.Word p q x))
     → f ≡ refusal_of k
     → ReadsOn r (statements d ∷ []) y a (Err f)
-no_statement {r} {k = k} lacks first no_word is = refused first is (statement_missed r.text.now _ _ k (unlike_class lacks first) no_word)
+no_statement r {k = k} lacks first no_word is = refused first is (statement_missed r.text.now _ _ k (unlike_class lacks first) no_word)
 
 module _ {r z : Reader} {d n : ℕ} {a : List ℕ} (h : Moved r (mark Fixed.also) z) where
   -- one arm more

@@ -3,6 +3,7 @@ use Prim.Native.Nat.{ℕ, suc, ◌+◌, ◌-◌, ◌*◌, ◌≤◌, ◌<◌}
 use native.Mathlib.Omega.{arith}
 use mathlib.Core.Path.{◌≡◌, refl, sym, ap, ◌∙◌, subst, subst₂}
 use mathlib.Core.Bool.{true, false}
+use mathlib.Core.Logic.{◌⊎◌, ⊎_elim}
 use mathlib.Core.Option.{none, some}
 use mathlib.Core.List.{List, [], ◌∷◌, ◌++◌, append_assoc}
 use Rattle.std.specs.Prelude.{Result, Ok, Err}
@@ -274,6 +275,14 @@ started {text} x h =
 -- what counts stays where it is
 pub counted_nearer : {r z c : Reader} {k : Class} {i j : ℕ} → Moved r k z → Counted z i j c → length c.text.now - c.at < length r.text.now - r.at
 counted_nearer h more = omega (arith, nearer h, more.at_is, ap (length {A = ℕ}) more.same)
+
+-- the same of one of two tokens
+module _ {r z : Reader} {k l : Class} (one : Moved r k z ⊎ Moved r l z) where
+  pub either_room : {i j : ℕ} → i ≤ 3 → j ≤ 18 → (z.counts.states + i ≤ 3 * z.at + 1) × (z.counts.rows + j ≤ 18 * z.at)
+  either_room few_states few_rows = ⊎_elim (λ h. room h few_states few_rows) (λ h. room h few_states few_rows) one
+
+  pub either_nearer : {i j : ℕ} {c : Reader} → Counted z i j c → length c.text.now - c.at < length r.text.now - r.at
+  either_nearer more = ⊎_elim (λ h. counted_nearer h more) (λ h. counted_nearer h more) one
 
 -- what is read lies ahead
 pub went_no_nearer : (r : Reader) {z : Reader} {x y : Stack} {a b : List ℕ} {u : Result Reader Refusal}

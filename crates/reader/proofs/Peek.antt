@@ -87,13 +87,13 @@ run_no_minus t st ((u at p) ∷ us) e n = no_minus_first t st u p us e (classify
 
 -- so a reader that lacks the mark is before the rest
 module _ {r : Reader} {a : List ℕ} where
-  pub no_minus_here : Lacks Fixed.minus r → Arrives r.text.now (before r (distance ∷ []) a) (number 63 ∷ exact Fixed.closes ∷ exact Fixed.semicolon ∷ []) a r
+  pub no_minus_here : Lacks Fixed.minus r.text.now r.at → Arrives r.text.now (before r (distance ∷ []) a) (number 63 ∷ exact Fixed.closes ∷ exact Fixed.semicolon ∷ []) a r
   no_minus_here h = peeked (peek Fixed.minus h.first (unlike_here h h.first) (λ st ts e n. run_no_minus (totals a r.counts) st ts e n))
 
-  pub no_else_here : {d : ℕ} → Lacks Fixed.else r → Arrives r.text.now (before r (or_else d ∷ []) a) (statements d ∷ []) a r
+  pub no_else_here : {d : ℕ} → Lacks Fixed.else r.text.now r.at → Arrives r.text.now (before r (or_else d ∷ []) a) (statements d ∷ []) a r
   no_else_here {d} h = peeked (peek Fixed.else h.first (unlike_here h h.first) (λ st ts e n. run_no_else d st (totals a r.counts) ts e n))
 
-  pub no_also_here : {d n : ℕ} → Lacks Fixed.also r → Arrives r.text.now (before r (or_also d n ∷ []) a) (statements d ∷ []) a r
+  pub no_also_here : {d n : ℕ} → Lacks Fixed.also r.text.now r.at → Arrives r.text.now (before r (or_also d n ∷ []) a) (statements d ∷ []) a r
   no_also_here {d} {n} h = peeked (peek Fixed.also h.first (unlike_here h h.first) (λ st ts e g. run_no-also d n st (totals a r.counts) ts e g))
 
   -- a `-`, if there is one, and then the number

@@ -56,7 +56,7 @@ spelt_lem (Token.End p) f = ap first_in f.begins.none
 spelt_lem (Token.Broken p) f = ap first_in f.begins.none
 
 -- a token that is spelt otherwise is missing
-abbrev pub lacking : {r : Reader} (m : Fixed) (k : Token) → FirstToken r.text.now r.at k → ¬ (spelt r.text.now k ≡ some (spell m)) → Lacks m r
+abbrev pub lacking : {text : List ℕ} {from : ℕ} (m : Fixed) (k : Token) → FirstToken text from k → ¬ (spelt text k ≡ some (spell m)) → Lacks m text from
 lacking m k f h = record { token = k; first = f; none = λ p ts e. h (sym (spelt_lem k f) ∙ ap first_in e) }
 
 -- it is no word, or no sign
@@ -173,7 +173,7 @@ unlike_first m ((t at p) ∷ ts) h = by_cases (classify t) refl
     by_cases (Class.letter b) e = tt
     by_cases (other u) e = tt
 
-pub unlike_here : {r : Reader} {m : Fixed} {k : Token} → Lacks m r → (f : FirstToken r.text.now r.at k) → T (not_first m f.tokens)
+pub unlike_here : {text : List ℕ} {from : ℕ} {m : Fixed} {k : Token} → Lacks m text from → (f : FirstToken text from k) → T (not_first m f.tokens)
 unlike_here {m = m} h f = unlike_first m f.tokens (λ p ts e. h.none p ts ((tokens_once h.first.all f.all).0 ∙ e))
 
 -- and by the class of the token
@@ -187,7 +187,7 @@ class_unlike m (Token.Sign p q x) f h = subst (λ (ts : List Placed). T (not_fir
 class_unlike m (Token.End p) f h = tt
 class_unlike m (Token.Broken p) f h = tt
 
-pub unlike_class : {r : Reader} {m : Fixed} {k : Token} → Lacks m r → FirstToken r.text.now r.at k → T (unlike m (class_of r.text.now k))
+pub unlike_class : {text : List ℕ} {from : ℕ} {m : Fixed} {k : Token} → Lacks m text from → FirstToken text from k → T (unlike m (class_of text k))
 unlike_class {m = m} {k = k} h f = class_unlike m k f (unlike_here h f)
 
 -- a choice of one mark takes no other
@@ -229,7 +229,7 @@ picks-none text t x (Token.Broken p) h = tt
 abbrev pub class_here : {r : Reader} {m : Fixed} {f : Refusal} → Missing m r f → Class
 class_here {r} h = class_of r.text.now h.lacks.token
 
-pub unlike_it : {r : Reader} {m n : Fixed} {f : Refusal} (h : Missing m r f) → Lacks n r → T (unlike n (class_here h))
+pub unlike_it : {r : Reader} {m n : Fixed} {f : Refusal} (h : Missing m r f) → Lacks n r.text.now r.at → T (unlike n (class_here h))
 unlike_it h too = unlike_class too h.lacks.first
 
 module _ {r : Reader} {x : Expected} {t : Totals} {w y : Stack} {b : List ℕ} {m : Fixed} {f : Refusal} (h : Missing m r f) where
@@ -240,7 +240,7 @@ module _ {r : Reader} {x : Expected} {t : Totals} {w y : Stack} {b : List ℕ} {
   refuses_unlike untaken = refuses_all (λ p. untaken p _ (unlike_it h h.lacks))
 
   -- and where another mark is missing too
-  pub refuses_both : {n : Fixed} → Lacks n r → ((p : ℕ) (c : Class) → T (unlike n c) → T (unlike m c) → Untaken (choices t p x) c) → Answers r.text.now (spot r.at (x ∷ w) t) y b (Err f)
+  pub refuses_both : {n : Fixed} → Lacks n r.text.now r.at → ((p : ℕ) (c : Class) → T (unlike n c) → T (unlike m c) → Untaken (choices t p x) c) → Answers r.text.now (spot r.at (x ∷ w) t) y b (Err f)
   refuses_both too untaken = refuses_all (λ p. untaken p _ (unlike_it h too) (unlike_it h h.lacks))
 
 -- the mark that is expected exactly
@@ -262,9 +262,9 @@ module _ {r : Reader} {m n : Fixed} {u v o : Result Reader Refusal} (first : Tak
       by_cases (Ok y) h g = inl (taken h g)
       by_cases (Err f) h g = inr (taken second g)
 
-  pub neither_taken : {f : Refusal} → o ≡ Err f → Lacks m r × Missing n r f
+  pub neither_taken : {f : Refusal} → o ≡ Err f → Lacks m r.text.now r.at × Missing n r f
   neither_taken {f} e = by_cases u first (sym is ∙ e)
     where
-      by_cases : (u : Result Reader Refusal) → Takes m r u → result_or u v ≡ Err f → Lacks m r × Missing n r f
+      by_cases : (u : Result Reader Refusal) → Takes m r u → result_or u v ≡ Err f → Lacks m r.text.now r.at × Missing n r f
       by_cases (Ok y) h g = absurd cc
       by_cases (Err d) h g = (h.right.lacks, missed_one second g)

@@ -1,4 +1,5 @@
-// The reader: where it stands in a text, and how it goes on behind a token. What it reads answers the reader behind that, or a refusal.
+// The reader: where it stands in a text, and how it goes on behind a token. Each method that reads answers the reader behind what it
+// read, or a refusal.
 ghost use Rattle.std.specs.Prelude.{◌≡◌, ℕ, ◌+◌, ◌*◌, ◌≤◌, length};
 
 use atoms::refuse;
@@ -13,7 +14,7 @@ pub struct Counts {
     pub rows: usize,
 }
 
-// The text is short and each token counts little, so no count overflows.
+// A place in a text, with what is counted before it. The text is short and each token counts little, so no count overflows.
 #[derive(Clone, Copy)]
 pub struct Reader<'a> {
     pub text: &'a [u8],

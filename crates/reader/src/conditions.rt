@@ -37,7 +37,7 @@ fn stray_of(atom: Atom, letters: Letters) -> Option<usize>
 impl<'a> Reader<'a> {
     // An atom with its rows. A letter outside the alphabet is refused.
     fn atom(self, letters: Letters) -> Result<Reader<'a>, Refusal>
-        requires { OpensNothing self }
+        requires { OpensNothing self.text.now self.at }
         ensures { (n : ℕ) → ReadsOn self.entry (operand n ∷ []) [] (alphabet_of letters) result }
     {
         let read = atom_at(self.text, self.at)?;
@@ -47,10 +47,8 @@ impl<'a> Reader<'a> {
                 place,
             });
         }
-        Ok(
-            self.onward(read.at)
-                .counting(0, rows_of(read.atom, letters.count)),
-        )
+        let behind = self.onward(read.at);
+        Ok(behind.counting(0, rows_of(read.atom, letters.count)))
     }
 
     // One operand.

@@ -39,7 +39,7 @@ impl<'a> Reader<'a> {
     // One statement, where no `}` stands.
     #[cycle(statements)]
     fn statement(self, scope: Scope) -> Result<Reader<'a>, Refusal>
-        requires { Lacks Fixed.ends self }
+        requires { Lacks Fixed.ends self.text.now self.at }
         ensures { Eats self.entry (statements scope.depth ∷ []) (statements scope.depth ∷ []) (alphabet_of scope.letters) result }
     {
         let (token, behind) = self.next();

@@ -72,15 +72,15 @@ pub record Refuses (r : Reader) (why : Reason) (f : Refusal) : Type 0 where
   pub first : FirstToken r.text.now r.at token
   pub is : f ≡ record { reason = why; place = (refusal_of token).place }
 
--- no token comes first that is spelt so
-pub record Lacks (m : Fixed) (r : Reader) : Type 0 where
+-- no token comes first from a byte on that is spelt so
+pub record Lacks (m : Fixed) (text : List ℕ) (from : ℕ) : Type 0 where
   pub token : Token
-  pub first : FirstToken r.text.now r.at token
+  pub first : FirstToken text from token
   pub none : (p : ℕ) (ts : List Placed) → ¬ (first.tokens ≡ (spell m at p) ∷ ts)
 
 -- and what comes first is refused
 pub record Missing (m : Fixed) (r : Reader) (f : Refusal) : Type 0 where
-  pub lacks : Lacks m r
+  pub lacks : Lacks m r.text.now r.at
   pub is : f ≡ refusal_of lacks.token
 
 abbrev pub TakesRight : Fixed → Reader → Result Reader Refusal → Type 0

@@ -11,7 +11,6 @@ use Rattle.rule.specs.Inside.Machine.{Expected, Totals}
 use Rattle.reader.specs.Inside.Answers.{spot, Stops, Lacks}
 use Rattle.atoms.specs.declared.Symbol.{Symbol as Sought}
 use Rattle.atoms.specs.declared.Atom.{Atom}
-use Rattle.reader.specs.declared.answers.Reader.{Reader}
 use Rattle.atoms.specs.Atom as Reads
 
 -- an atom of the code is this one of the tree
@@ -55,8 +54,8 @@ abbrev pub behind : Spelt.Token → ℕ → Ts → Ts
 behind t p ts = (t at p) ∷ ts
 
 -- neither `(` nor `!` comes first
-abbrev pub OpensNothing : Reader → Type 0
-OpensNothing r = Lacks Fixed.opens r × Lacks Fixed.not r
+abbrev pub OpensNothing : List ℕ → ℕ → Type 0
+OpensNothing text from = Lacks Fixed.opens text from × Lacks Fixed.not text from
 
 -- the tokens from one byte to another, behind some others, are an atom, whose first word is at this place
 pub record IsFound (text : List ℕ) (from : ℕ) (lead : Ts → Ts) (atom : Atom) (to : ℕ) : Type 0 where

@@ -5,7 +5,7 @@ use mathlib.Core.Path.{refl}
 use mathlib.Core.Logic.{⊎_elim}
 use Rattle.rule.specs.Inside.Class.{Fixed}
 use Rattle.atoms.proofs.Exits.{exit}
-use Rattle.reader.proofs.Moves.{here, went, arrives_on, arrived, onward, stop, took_with, took_counted, room, nearer, counted_nearer, went_no_nearer}
+use Rattle.reader.proofs.Moves.{here, went, arrives_on, arrived, onward, stop, took_with, took_counted, nearer, either_room, either_nearer, went_no_nearer}
 use Rattle.reader.proofs.Taken.{taken, missed_one, either_taken, neither_taken, refuses_all, unlike_it}
 use Rattle.reader.proofs.Depth.{full, shallow_lem, one_deeper, same_letters, break_here}
 use Rattle.reader.proofs.answers.Reader.+conditions.Goals as goal
@@ -37,16 +37,13 @@ condition-returns-in_err-joined t c =
 pub condition-counting-reader-requires : goal.condition-counting-reader-requires
 condition-counting-reader-requires t c =
     let one = either_taken (c.sign-in-loop-read.ensures Fixed.and refl) (c.sign-in-loop-read-2.ensures Fixed.or refl) c.or.ensures c.in_ok-joined.was in
-    ⊎_elim (λ h. room h (omega arith) (omega arith)) (λ h. room h (omega arith) (omega arith)) one
+    either_room one (omega arith) (omega arith)
 
 pub condition-loop-read-smaller : goal.condition-loop-read-smaller
 condition-loop-read-smaller t c =
     let one = either_taken (c.sign-in-loop-read.ensures Fixed.and refl) (c.sign-in-loop-read-2.ensures Fixed.or refl) c.or.ensures c.in_ok-joined.was in
     let read = went_no_nearer c.loop-read.reader c.operand.ensures c.in_ok-read.was in
-    ⊎_elim
-    (λ h. omega (arith, read, counted_nearer h c.counting-reader.ensures))
-    (λ h. omega (arith, read, counted_nearer h c.counting-reader.ensures))
-    one
+    omega (arith, read, either_nearer one c.counting-reader.ensures)
 
 pub condition-loop-read-preserved : goal.condition-loop-read-preserved
 condition-loop-read-preserved t c =

@@ -185,7 +185,7 @@ behind_branch-loop-also-preserved t c =
 
 pub statement-returns-in_default : goal.statement-returns-in_default
 statement-returns-in_default t c =
-    record { answers = no_statement c.requires c.next-token.ensures.first c.in_default.not-Word c.refuse.ensures; past = tt }
+    record { answers = no_statement c.args.self c.requires c.next-token.ensures.first c.in_default.not-Word c.refuse.ensures; past = tt }
 
 pub statement-counting-requires : goal.statement-counting-requires
 statement-counting-requires t c =

@@ -17,15 +17,15 @@ returns-in_err-read c n = rw (exit _ c.from_residual.ensures.1) (atom_refused c.
 pub returns-in-Some : goal.returns-in-Some
 returns-in-Some c n = atom_strays c.args.self (atom_tests c.requires c.atom_at.ensures n) c.in_ok-read.was (sym c.stray_of.ensures ∙ c.in-Some.is)
 
-pub onward-requires : goal.onward-requires
-onward-requires c =
+pub onward-behind-requires : goal.onward-behind-requires
+onward-behind-requires c =
     let found = found_behind (atom_tests c.requires c.atom_at.ensures 0) c.in_ok-read.was in
     (omega (arith, found.0), found.1)
 
 pub counting-requires : goal.counting-requires
 counting-requires c =
     let found = found_behind (atom_tests c.requires c.atom_at.ensures 0) c.in_ok-read.was in
-    let on = c.onward.ensures in
+    let on = c.onward-behind.ensures in
     let states = ap (λ (n : Counts). n.states) on.counts_are in
     let rows = ap (λ (n : Counts). n.rows) on.counts_are in
     let most = rows_most c.args.letters.count c.in_ok-read.read.atom in (
@@ -42,5 +42,5 @@ returns c n =
     c.in_ok-read.was
     (sym c.stray_of.ensures ∙ c.in_default.is)
     (c.rows_of.ensures ∙ ap (λ (k : ℕ). rows_of k c.in_ok-read.read.atom) (sym (alphabet_length c.args.letters)))
-    c.onward.ensures
+    c.onward-behind.ensures
     c.counting.ensures)
