@@ -53,13 +53,7 @@ module _ {image word : List ℕ} {limit : ℕ} {before after : List ℕ} where
   }
 
 -- what is judged is what is searched
-pub admitted_undecided
-    : {image word : List ℕ} {limit : ℕ} {before : List ℕ} → Asks image word limit (Ok tt) → length before ≡ mark_bytes
-    → Undecided (table_of image) image Image word limit before
-admitted_undecided asks room =
+pub admitted_undecided : {image word : List ℕ} {limit : ℕ} → Asks image word limit (Ok tt) → Undecided (table_of image) image Image word limit
+admitted_undecided asks =
     let a = asks.right in
-    record {
-      ready = record { range = a.is_image.in_range; short = a.short; low = a.low };
-      sources = image_sources a.is_image;
-      room = room;
-    }
+    record { ready = record { range = a.is_image.in_range; short = a.short; low = a.low }; sources = image_sources a.is_image }

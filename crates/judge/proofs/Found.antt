@@ -2,10 +2,10 @@
 use Prim.Native.Nat.{ℕ, ◌+◌, ◌/◌, ◌≤◌, ◌<◌}
 use native.Mathlib.Nat.{zero-div}
 use native.Mathlib.Omega.{arith}
-use mathlib.Core.Path.{◌≡◌, refl, sym, ◌∙◌, subst}
+use mathlib.Core.Path.{◌≡◌, refl, sym, subst}
 use mathlib.Core.Bool.{Bool, true, false, true≢false}
 use mathlib.Core.List.{List}
-use lib.ListN.{length, take, replicate, length-replicate}
+use lib.ListN.{length, take, replicate}
 use lib.Seq.{length-take-le, take_all}
 use Rattle.bits.specs.Bit.{bit, Bytes}
 use Rattle.bits.specs.Size.{Size}
@@ -100,14 +100,10 @@ found_verdict false false tells found =
 
 -- marks that were cleared hold no bit
 pub cleared_unmarked
-    : {t : Table} {rows : List ℕ} {source : Source} {w : List ℕ} {L : ℕ} {m m' : List ℕ} → Undecided t rows source w L m → m' ≡ replicate (length m) 0
+    : {t : Table} {rows : List ℕ} {source : Source} {w : List ℕ} {L : ℕ} (m : List ℕ) {m' : List ℕ} → Undecided t rows source w L → m' ≡ replicate (length m) 0
     → Unmarked t rows source w L m'
-cleared_unmarked {m = m} undecided cleared = rw cleared (record {
-  ready = undecided.ready;
-  sources = undecided.sources;
-  room = length-replicate (length m) 0 ∙ undecided.room;
-  empty = bit_zeros (length m);
-})
+cleared_unmarked m undecided cleared =
+    rw cleared (record { ready = undecided.ready; sources = undecided.sources; empty = bit_zeros (length m) })
 
 module _ {t : Table} {w : List ℕ} {L : ℕ} {m : List ℕ} {over : Bool} (found : Searched t w L m over) where
   -- the first half is as long as it should be

@@ -5,6 +5,8 @@ use mathlib.Core.Path.{◌≡◌}
 use mathlib.Core.Bool.{Bool, false}
 use Rattle.std.specs.Prelude.{None}
 use mathlib.Core.List.{List}
+use lib.ListN.{length}
+use Rattle.judgement.specs.Marks.{mark_bytes}
 use Rattle.table.specs.Table.{Table}
 use Rattle.table.specs.Inside.Showing.{Sources}
 use Rattle.table.specs.declared.source.Source.{Source}
@@ -15,8 +17,8 @@ use Rattle.judge.proofs.Left.{left, left_falls}
 
 module _ {t : Table} {rows : List ℕ} {source : Source} {w : List ℕ} {L : ℕ} {m : List ℕ} where
   -- the start is marked
-  pub begins-between : {m' : List ℕ} → Unmarked t rows source w L m → m' ≡ marked m 0 → Between t w L m' false
-  begins-between unmarked is = rw is (search_begins m unmarked.ready unmarked.room unmarked.empty)
+  pub begins-between : {m' : List ℕ} → Unmarked t rows source w L m → length m ≡ mark_bytes → m' ≡ marked m 0 → Between t w L m' false
+  begins-between unmarked room is = rw is (search_begins m unmarked.ready room unmarked.empty)
 
   -- a situation that is picked waits
   pub picked_waiting : {over : Bool} {i : ℕ} → Sources t source rows → Between t w L m over → Pending m i → Waiting t rows source w L m over i

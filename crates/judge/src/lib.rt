@@ -64,7 +64,7 @@ fn shown(search: &Search, marks: &[u8; MARK_BYTES], over: bool) -> Judged
 
 // The verdict and the count on what is judged, by the rows of a source.
 fn decide(search: &Search, marks: &mut [u8; MARK_BYTES]) -> Judged
-    requires { Undecided (table_of search.now.image.now) search.now.rows.now search.now.source search.now.word.now search.now.limit marks.old }
+    requires { Undecided (table_of search.now.image.now) search.now.rows.now search.now.source search.now.word.now search.now.limit }
     ensures { Decided (table_of search.now.image.now) search.now.word.now search.now.limit marks.new result }
 {
     bits::clear(marks);

@@ -30,7 +30,8 @@ struct Shown {
     at: usize,
 }
 
-// What is searched: a table by its image, by the rows of a source, with a word and a limit.
+// What is searched: a table by its image, by the rows of a source, with a word and a limit. (That these can be searched stands in the
+// contracts: as ghost fields of this struct it was tried, and refused, since `Ready` and `Sources` are more than propositions.)
 #[derive(Clone, Copy)]
 pub struct Search<'a> {
     pub image: &'a [u8],

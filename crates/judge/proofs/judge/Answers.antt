@@ -10,9 +10,7 @@ returns-in_err-first_reason c =
     rw same (refused_input c.in_err-first_reason.ensures refl)
 
 pub decide-requires : goal.decide-requires
-decide-requires c =
-    let whole = c.in-Some.ensures.cases in
-    rw whole.same (admitted_undecided c.in_ok-first_reason.ensures whole.long)
+decide-requires c = admitted_undecided c.in_ok-first_reason.ensures
 
 pub returns-in-None : goal.returns-in-None
 returns-in-None c = refused_marks c.in_ok-first_reason.ensures c.in-None.ensures.cases refl

@@ -1,5 +1,5 @@
 -- What the judge's own functions promise one another.
-use Rattle.std.specs.Prelude.{ℕ, ◌+◌, ◌*◌, ◌/◌, ◌%◌, ◌≤◌, ◌<◌, ◌≡◌, Bool, true, false, List, length, get_or, Option, Some, None}
+use Rattle.std.specs.Prelude.{ℕ, ◌+◌, ◌*◌, ◌/◌, ◌%◌, ◌≤◌, ◌<◌, ◌≡◌, Bool, true, false, List, get_or, Option, Some, None}
 use Rattle.bits.specs.Bit.{bit}
 use Rattle.bits.specs.Size.{Size}
 use Rattle.ones.specs.Blank.{Blank}
@@ -13,7 +13,7 @@ use Rattle.machine.specs.Run.{Reach}
 use Rattle.judgement.specs.declared.answer.Verdict.{Verdict}
 use Rattle.judgement.specs.declared.answer.Verdict.TheVariants.{Yes, No, LimitMet}
 use Rattle.judgement.specs.Verdict.{IsVerdict}
-use Rattle.judgement.specs.Marks.{mark_bytes, first_half, Marks}
+use Rattle.judgement.specs.Marks.{first_half, Marks}
 use Rattle.judge.specs.Inside.Search.{situations, situation_of, Followed, Ready, Searching, Between, Keeps}
 use Rattle.judgement.specs.declared.answer.Judged.{Judged}
 use Rattle.judge.specs.declared.pending.Try.{Try}
@@ -98,7 +98,6 @@ pub record Expanded (t : Table) (w : List ℕ) (L : ℕ) (m m' : List ℕ) (over
 pub record Unmarked (t : Table) (rows : List ℕ) (source : Source) (w : List ℕ) (L : ℕ) (m : List ℕ) : Type 0 where
   pub ready : Ready t w L
   pub sources : Sources t source rows
-  pub room : length m ≡ mark_bytes
   pub empty : (i : ℕ) → bit m i ≡ 0
 
 -- a state accepts, and a situation in it is marked
@@ -116,10 +115,9 @@ verdict_of false true = LimitMet
 verdict_of false false = No
 
 -- what is judged, by the rows of a source
-pub record Undecided (t : Table) (rows : List ℕ) (source : Source) (w : List ℕ) (L : ℕ) (m : List ℕ) : Type 0 where
+pub record Undecided (t : Table) (rows : List ℕ) (source : Source) (w : List ℕ) (L : ℕ) : Type 0 where
   pub ready : Ready t w L
   pub sources : Sources t source rows
-  pub room : length m ≡ mark_bytes
 
 -- the answer on it
 pub record Decided (t : Table) (w : List ℕ) (L : ℕ) (m : List ℕ) (answer : Judged) : Type 0 where

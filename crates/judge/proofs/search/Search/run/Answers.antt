@@ -4,7 +4,7 @@ use Rattle.judge.proofs.search.Search.run.Goals as goal
 
 pub loop-i-init : goal.loop-i-init
 loop-i-init c =
-    begins-between c.requires c.mark.ensures
+    begins-between c.requires c.told-marks c.mark.ensures
 
 pub loop-i-smaller : goal.loop-i-smaller
 loop-i-smaller c =
