@@ -95,15 +95,13 @@ impl<'a> Reader<'a> {
         let second = self.block(scope)?.word(Word::Also)?;
         let mut arm = second.counting(1, 2).block(scope)?;
         let mut arms: usize = 2;
-        loop {
-            let Ok(also) = arm.word(Word::Also) else {
-                return Ok(arm);
-            };
+        while let Ok(also) = arm.word(Word::Also) {
             if arms == 8 {
                 return Err(arm.refusal(Reason::Arms));
             }
             arm = also.counting(1, 2).block(scope)?;
             arms += 1;
         }
+        Ok(arm)
     }
 }

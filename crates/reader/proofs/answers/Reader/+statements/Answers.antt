@@ -142,8 +142,8 @@ behind_branch-loop-also-init t c = (
   omega arith,
 )
 
-pub behind_branch-returns-in_default : goal.behind_branch-returns-in_default
-behind_branch-returns-in_default t c =
+pub behind_branch-returns : goal.behind_branch-returns
+behind_branch-returns t c =
     onward
     c.loop-also.invariant.0
     (arrived (no_also_here (missed_one (c.word-in-loop-also.ensures _ Fixed.also refl refl) c.in_default.is).lacks))
@@ -152,33 +152,33 @@ pub behind_branch-returns-then-arms-eq8 : goal.behind_branch-returns-then-arms-e
 behind_branch-returns-then-arms-eq8 t c =
     onward c.loop-also.invariant.0 (ninth_arm (taken (c.word-in-loop-also.ensures _ Fixed.also refl refl) c.in-Ok.is) c.if-arms-eq8.true c.refusal.ensures)
 
-pub behind_branch-counting-requires-in-loop-also : goal.behind_branch-counting-requires-in-loop-also
-behind_branch-counting-requires-in-loop-also t c =
+pub behind_branch-counting-requires-in-Ok : goal.behind_branch-counting-requires-in-Ok
+behind_branch-counting-requires-in-Ok t c =
     room (taken (c.word-in-loop-also.ensures _ Fixed.also refl refl) c.in-Ok.is) (omega arith) (omega arith)
 
-pub behind_branch-block-requires-in-loop-also : goal.behind_branch-block-requires-in-loop-also
-behind_branch-block-requires-in-loop-also t c =
+pub behind_branch-block-requires-in-Ok : goal.behind_branch-block-requires-in-Ok
+behind_branch-block-requires-in-Ok t c =
     let first = c.loop-also.invariant.0 in
-    (omega (arith, c.decreases, first.comes.forth, ap (length {A = ℕ}) first.same, counted_nearer (taken (c.word-in-loop-also.ensures _ Fixed.also refl refl) c.in-Ok.is) c.counting-in-loop-also.ensures), tt)
+    (omega (arith, c.decreases, first.comes.forth, ap (length {A = ℕ}) first.same, counted_nearer (taken (c.word-in-loop-also.ensures _ Fixed.also refl refl) c.in-Ok.is) c.counting-in-Ok.ensures), tt)
 
 pub behind_branch-returns-in_err-arm-2 : goal.behind_branch-returns-in_err-arm-2
 behind_branch-returns-in_err-arm-2 t c =
     let few : c.loop-also.arms < 8 = omega (arith, c.if-arms-eq8.false, c.loop-also.invariant.2) in
     rw
     (exit _ c.from_residual-in_err-arm-2.ensures.1)
-    (onward c.loop-also.invariant.0 (onward (next_arm (taken (c.word-in-loop-also.ensures _ Fixed.also refl refl) c.in-Ok.is) few c.counting-in-loop-also.ensures) (stop _ c.block-in-loop-also.ensures c.in_err-arm-2.was)))
+    (onward c.loop-also.invariant.0 (onward (next_arm (taken (c.word-in-loop-also.ensures _ Fixed.also refl refl) c.in-Ok.is) few c.counting-in-Ok.ensures) (stop _ c.block-in-Ok.ensures c.in_err-arm-2.was)))
 
 pub behind_branch-loop-also-smaller : goal.behind_branch-loop-also-smaller
 behind_branch-loop-also-smaller t c =
-    let arm = went_no_nearer c.counting-in-loop-also.result c.block-in-loop-also.ensures c.in_ok-arm-2.was in
-    omega (arith, arm, counted_nearer (taken (c.word-in-loop-also.ensures _ Fixed.also refl refl) c.in-Ok.is) c.counting-in-loop-also.ensures)
+    let arm = went_no_nearer c.counting-in-Ok.result c.block-in-Ok.ensures c.in_ok-arm-2.was in
+    omega (arith, arm, counted_nearer (taken (c.word-in-loop-also.ensures _ Fixed.also refl refl) c.in-Ok.is) c.counting-in-Ok.ensures)
 
 pub behind_branch-loop-also-preserved : goal.behind_branch-loop-also-preserved
 behind_branch-loop-also-preserved t c =
     let few : c.loop-also.arms < 8 = omega (arith, c.if-arms-eq8.false, c.loop-also.invariant.2) in (
       arrives_on
           c.loop-also.invariant.0
-          (arrives_on (next_arm (taken (c.word-in-loop-also.ensures _ Fixed.also refl refl) c.in-Ok.is) few c.counting-in-loop-also.ensures) (went _ c.block-in-loop-also.ensures c.in_ok-arm-2.was)),
+          (arrives_on (next_arm (taken (c.word-in-loop-also.ensures _ Fixed.also refl refl) c.in-Ok.is) few c.counting-in-Ok.ensures) (went _ c.block-in-Ok.ensures c.in_ok-arm-2.was)),
       omega arith,
       omega arith,
     )
