@@ -70,24 +70,34 @@ impl Search<'_> {
         }
     }
 
+    // Follows a row that is shown for a situation, if it leaves its state: of an image most rows do not.
+    fn visit(
+        &self,
+        shown: Shown,
+        over: bool,
+        marks: &mut [u8; MARK_BYTES],
+        hints: &mut Hints,
+    ) -> bool
+        requires { RowHere (table_of self.now.image.now) self.now.rows.now self.now.word.now self.now.limit marks.old over shown.i shown.range shown.j shown.at (symbol_is shown.seen) }
+        ensures { RowFollowed (table_of self.now.image.now) self.now.rows.now self.now.word.now self.now.limit marks.old marks.new result shown.i shown.range shown.j }
+    {
+        if rows::leaves(self.rows, shown.at, shown.i / 32 / 64) {
+            return self.follow(shown, over, marks, hints);
+        }
+        over
+    }
+
     // Follows every row that a source shows for situation i, which is pending.
     fn expand(&self, i: usize, over: bool, marks: &mut [u8; MARK_BYTES], hints: &mut Hints) -> bool
         requires { Waiting (table_of self.now.image.now) self.now.rows.now self.now.source self.now.word.now self.now.limit marks.old over i }
         ensures { Expanded (table_of self.now.image.now) self.now.word.now self.now.limit marks.old marks.new result i }
     {
         bits::clear_bit(marks, i + SITUATIONS);
-        let rows = self.rows;
-        let range = rows_of(self.source, rows, i / 32 / 64);
+        let range = rows_of(self.source, self.rows, i / 32 / 64);
         let seen = cells::head::seen(self.word, i / 32 % 64);
-        let mut next = range.first;
+        let mut at = range.first;
         let mut past = over;
         for j in 0..range.many {
-            let at = next;
-            next += range.apart;
-            // Of an image most rows leave another state.
-            if !rows::leaves(rows, at, i / 32 / 64) {
-                continue;
-            }
             let shown = Shown {
                 i,
                 seen,
@@ -95,7 +105,8 @@ impl Search<'_> {
                 j,
                 at,
             };
-            past = self.follow(shown, past, marks, hints);
+            past = self.visit(shown, past, marks, hints);
+            at += range.apart;
         }
         past
     }

@@ -1,8 +1,8 @@
 -- `judge::search::Search::expand` meets its contract. The loop's invariant: the rows before row `j` of those that are shown are followed, and row `j`
--- stands at `next`.
-use mathlib.Core.Path.{refl, sym, ◌∙◌}
+-- stands at `at`.
+use mathlib.Core.Path.{refl, sym}
 use Rattle.table.proofs.Showing.{range_first}
-use Rattle.judge.proofs.Following.{same_keeps, place_again, followed_other, expand_shows, expand_begins, expand_followed, expand_ends}
+use Rattle.judge.proofs.Following.{same_keeps, place_again, expand_begins, expand_followed, expand_ends}
 use Rattle.judge.proofs.search.Search.expand.Goals as goal
 
 pub loop-j-init : goal.loop-j-init
@@ -12,26 +12,9 @@ loop-j-init c =
     let a = c.rows_of-range.ensures in
     record { search = expand_begins w e a; followed = expand_followed w e a; keeps = same_keeps; place = sym (range_first _) }
 
-pub loop-j-preserved-then-not-leaves : goal.loop-j-preserved-then-not-leaves
-loop-j-preserved-then-not-leaves c =
-    let l = c.loop-j.invariant in
-    let other =
-    followed_other
-    (record {
-      search = l.search;
-      low = c.requires.low;
-      followed = l.followed;
-      shows = expand_shows c.requires c.clear_bit.ensures c.rows_of-range.ensures;
-      few = c.loop-j-test.true;
-      place = l.place;
-    })
-    (sym c.leaves.ensures ∙ c.if-not-leaves.true)
-    in
-    record { search = other.search; followed = l.followed; keeps = l.keeps; place = place_again _ _ l.place refl }
-
 pub loop-j-preserved : goal.loop-j-preserved
 loop-j-preserved c =
-    let f = c.follow-past.ensures in
+    let f = c.visit-past.ensures in
     let l = c.loop-j.invariant in
     let low = c.requires.low in
     record {

@@ -1,5 +1,5 @@
 -- `judge::search::Search::expand` meets its contract. The loop's invariant: the rows before row `j` of those that are shown are followed, and row `j`
--- stands at `next`.
+-- stands at `at`.
 use mathlib.Core.Path.{◌≡◌}
 use Rattle.table.specs.Fields.{table_of}
 use Rattle.table.specs.Inside.Showing.{place_in}
@@ -12,5 +12,5 @@ invariant-loop-j l = record {
   search : Searching (table_of l.self.image.now) l.self.word.now l.self.limit l.marks l.past l.i (Shown l.self.rows.now l.range l.j);
   followed : Followed l.marks l.i;
   keeps : Keeps l.initial.marks l.marks;
-  place : l.next ≡ place_in l.range l.j;
+  place : l.at ≡ place_in l.range l.j;
 }
