@@ -1,5 +1,6 @@
 // What the fields of an image say, read where they stand.
-// A reader takes any bytes for an image; a byte past the end counts as 0.
+// A reader takes any bytes for an image; a byte past the end counts as 0. (There is no struct of an image: the C interface lends bytes,
+// and `specs/Fields.antt` of `table` speaks of bytes.)
 #![tactic(auto)]
 
 ghost use Rattle.std.specs.Prelude.{◌≡◌, ◌+◌, ◌*◌};

@@ -2,7 +2,7 @@
 use Prim.Native.Nat.{ℕ, ◌+◌, ◌*◌, ◌/◌, ◌≤◌, ◌<◌}
 use native.Mathlib.Nat.{zero-div}
 use native.Mathlib.Omega.{arith}
-use mathlib.Core.Path.{◌≡◌, refl, sym, subst}
+use mathlib.Core.Path.{◌≡◌, refl}
 use mathlib.Core.List.{List}
 use Rattle.std.specs.Prelude.{Option, Some, None, is_some}
 use Rattle.bits.specs.Bit.{bit}
@@ -33,15 +33,6 @@ accepts_told {m = m} {state} None low accepting blank =
     tells_no refl (λ a. let here = a.here in blank_bit m (state * 256) (state * 256 + 256) a.mark blank (omega arith) (omega arith) a.set)
 
 module _ {t : Table} {m : List ℕ} where
-  -- a marked situation accepts if a state accepts in the marks
-  pub accepted_in : {state : ℕ} → AcceptsIn t m state → MarkedAccepts t m
-  accepted_in a = record {
-    mark = a.mark;
-    low = a.low;
-    set = a.set;
-    accepting = subst (Accepting t) (sym a.here) a.accepting;
-  }
-
   -- and none does if none of the 128 states does
   pub accepted_nowhere : (many : ℕ) → 128 ≤ many → ((s : ℕ) → s < many → ¬ AcceptsIn t m s) → ¬ MarkedAccepts t m
   accepted_nowhere many all none a =

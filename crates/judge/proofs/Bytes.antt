@@ -1,21 +1,15 @@
 -- The lowest bit of a byte that is not 0, and the first in bytes.
-use Prim.Native.Nat.{ℕ, zero, suc, ◌+◌, ◌-◌, ◌*◌, ◌/◌, ◌%◌, ◌^◌, ◌≤◌, ◌<◌, suc-le-suc}
+use Prim.Native.Nat.{ℕ, zero, suc, ◌+◌, ◌*◌, ◌/◌, ◌%◌, ◌^◌, ◌≤◌, ◌<◌, suc-le-suc}
 use native.Mathlib.Nat.{pow-suc, zero-lt-suc}
-use native.Mathlib.Decide.{dec_lt}
 use native.Mathlib.Omega.{arith}
 use native.Mathlib.Numerals.{one-add}
 use mathlib.Core.Path.{◌≡◌, refl, ◌∙◌}
 use mathlib.Core.List.{List}
-use lib.ListN.{length, get_or, get_or-eq_default}
-use lib.Count.{count_trailing_zeros, under, trailing_le}
-use mir.Syntax.{w64}
-use mir.Val.{Fits}
+use lib.ListN.{get_or}
+use lib.Count.{count_trailing_zeros, under}
 use lib.Pow.{shr-shr}
 use Rattle.bits.proofs.Bits.{bit_of_byte}
-use Rattle.ones.specs.Blank.{Blank}
-use Rattle.judgement.specs.Marks.{mark_bytes, first_half}
-use Rattle.judge.specs.Inside.Search.{situations}
-use Rattle.judge.specs.Inside.Inner.{SetIn, Pending}
+use Rattle.judge.specs.Inside.Inner.{SetIn}
 
 -- half a number has the digits after the first
 half_digits : (n j : ℕ) → n / 2 / 2 ^ j ≡ n / 2 ^ suc j
@@ -38,25 +32,8 @@ lowest_set zero n low some = absurd (omega arith)
 lowest_set (suc k) n low some =
     lowest_from (n % 2) k n (count_trailing_zeros k (n / 2)) refl low some (λ more. lowest_set k (n / 2) (omega (arith, pow-suc 2 k)) more)
 
--- a place fits a word
-pub trailing_fits : (n : ℕ) → Fits w64 (count_trailing_zeros 64 n)
-trailing_fits n = omega (arith, trailing_le 64 n)
-
 -- a bit that is set stands in a byte that is not 0
 pub set_here
     : (m : List ℕ) (from at to place : ℕ) → from ≤ at → at < to → place < 8 → get_or m at 0 / 2 ^ place % 2 ≡ 1 → SetIn m from to (at * 8 + place)
 set_here m from at to place ahead inside low set =
     record { low = omega arith; high = omega arith; set = bit_of_byte m at place low ∙ set }
-
--- a bit of the second half that is set is a pending situation's
-pub pending_found : {m : List ℕ} {from to r : ℕ} → first_half ≤ from → to ≤ mark_bytes → SetIn m from to r → Pending m (r - situations)
-pending_found {r = r} second within found =
-    let back : r - situations + situations ≡ r = omega (arith, found.low) in
-    record { low = omega (arith, found.low, found.high); waits = rw back found.set }
-
--- and where none is set in the whole half, none is pending
-pub none_pending : {m : List ℕ} → length m ≡ mark_bytes → Blank m first_half mark_bytes → (k : ℕ) → first_half ≤ k → get_or m k 0 ≡ 0
-none_pending {m} room blank k low = elim (dec_lt k mark_bytes) [
-  | yes inside ↦ blank.zero k low inside
-  | no past ↦ get_or-eq_default m 0 (omega arith)
-]

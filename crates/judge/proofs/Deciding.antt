@@ -12,13 +12,12 @@ use Rattle.table.specs.declared.reason.Refusal.{Refusal}
 use Rattle.table.specs.declared.source.Source.TheVariants.{Image}
 use Rattle.table.proofs.Refusal.{first_front, first_behind}
 use Rattle.table.proofs.Showing.{image_sources}
-use Rattle.judgement.specs.declared.answer.Judged.{Judged}
 use Rattle.judgement.specs.Marks.{mark_bytes}
 use Rattle.judgement.specs.Reasons.{input_reasons}
 use Rattle.judgement.specs.Judge.{marks_reason, Answers}
 use Rattle.judgement.proofs.Reasons.{input_none}
 use Rattle.refusing.specs.Asking.{Asks}
-use Rattle.judge.specs.Inside.Inner.{Undecided, Decided}
+use Rattle.judge.specs.Inside.Inner.{Undecided}
 
 module _ {image word : List ℕ} {limit : ℕ} {before after : List ℕ} where
   -- what is refused for its image, word or limit
@@ -37,20 +36,6 @@ module _ {image word : List ℕ} {limit : ℕ} {before after : List ℕ} where
       let first =
       first_behind 25 0 (input_reasons image word limit) (marks_reason before) (input_none image word limit asks.right) (inl (refl, (refl, room))) in
       record { right = record { first = first; unchanged = same } }
-
-  -- or judged
-  pub decided_right
-      : {answer : Judged} → Asks image word limit (Ok tt) → length before ≡ mark_bytes → Decided (table_of image) word limit after answer
-      → Answers image word limit before after (Ok answer)
-  decided_right asks room decided = record {
-    right = record {
-      table = table_of image;
-      judgeable = record { admitted = asks.right; room = room };
-      verdict = decided.right;
-      count = decided.count;
-      marks = decided.marks;
-    };
-  }
 
 -- what is judged is what is searched
 pub admitted_undecided : {image word : List ℕ} {limit : ℕ} → Asks image word limit (Ok tt) → Undecided (table_of image) image Image word limit

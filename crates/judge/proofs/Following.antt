@@ -3,13 +3,12 @@ use Prim.Native.Nat.{ℕ, ◌+◌, ◌*◌, ◌/◌, ◌%◌, ◌≤◌, ◌<◌
 use native.Mathlib.Decide.{ℕ_discrete}
 use native.Mathlib.Numerals.{add-one}
 use native.Mathlib.Omega.{arith}
-use mathlib.Core.Path.{◌≡◌, refl, sym, ap, ◌∙◌, subst}
+use mathlib.Core.Path.{◌≡◌, sym, ap, ◌∙◌, subst}
 use mathlib.Core.Bool.{Bool, true, false, true≢false, ◌&&◌}
 use mathlib.Core.Logic.{◌⊎◌, inl, inr}
 use lib.Dec.{eqb}
-use borrow.Author.Tests.{eq-eqb, eqb-true, eqb-false}
+use borrow.Author.Tests.{eq-eqb, eqb-false}
 use mathlib.Core.List.{List, Memᴰ}
-use lib.ListN.{length}
 use Rattle.bits.specs.Bit.{bit, without_bit}
 use Rattle.table.specs.Table.{Row, Table}
 use Rattle.table.specs.Fields.{row_from}
@@ -25,7 +24,7 @@ use Rattle.machine.specs.declared.Outcome.{Outcome}
 use Rattle.machine.specs.declared.Outcome.TheVariants.{Goes, Blocked, OverLimit}
 use Rattle.judgement.specs.Marks.{HasMark, mark_of}
 use Rattle.judge.specs.Inside.Search.{situations, situation_of, marked, Followed, Searching, Keeps}
-use Rattle.judge.specs.Inside.Inner.{Shown, RowOpen, RowHere, RowLeaves, RowFollowed, Waiting, Expanded}
+use Rattle.judge.specs.Inside.Inner.{Shown, RowOpen, RowLeaves, RowFollowed, Waiting, Expanded}
 use Rattle.judgement.proofs.Marks.{mark_below}
 use Rattle.judge.proofs.Marking.{marked_followed}
 use Rattle.judge.proofs.Searching.{other_state, mark_for, row_blocked, row_above, row_within, rows_done, rows_begin, begun_followed, begun_keeps}
@@ -33,15 +32,6 @@ use Rattle.judge.proofs.Searching.{other_state, mark_for, row_blocked, row_above
 -- nothing has changed
 pub same_keeps : {m : List ℕ} → Keeps m m
 same_keeps i low f = f
-
--- when a row's symbol and test fit: one of two tests decides both
-pub and-false : (a : Bool) {b : Bool} → b ≡ false → false ≡ (a && b)
-and-false true e = sym e
-and-false false e = refl
-
-pub and-true : (a : Bool) {b : Bool} → b ≡ true → a ≡ (a && b)
-and-true true e = sym e
-and-true false e = refl
 
 -- what a range shows: no row before the first, and one more before the next
 shown_none : {rows : List ℕ} {range : Range} (r : Row) → ¬ Shown rows range 0 r
@@ -71,12 +61,6 @@ module _ {t : Table} {rows w : List ℕ} {L : ℕ} {m : List ℕ} {over : Bool} 
   pub followed_other : eqb (row_from rows at).from (i / 32 / 64) ≡ false → RowFollowed t rows w L m m over i range j
   followed_other other =
       never_followed (other_state (λ e. eqb-false _ _ other (ap (λ (r : Row). r.from) here_is ∙ e)))
-
--- one out of the situation's state is looked at further
-pub followed_here
-    : {t : Table} {rows w : List ℕ} {L : ℕ} {m : List ℕ} {over : Bool} {i : ℕ} {range : Range} {j at : ℕ} {seen : Symbol} → RowHere t rows w L m over i range j at seen
-    → eqb (row_from rows at).from (i / 32 / 64) ≡ true → RowLeaves t rows w L m over i range j at seen
-followed_here here same = record { here = here; leaves = eqb-true _ _ same }
 
 module _ {t : Table} {rows w : List ℕ} {L : ℕ} {m : List ℕ} {over : Bool} {i : ℕ} {range : Range} {j at : ℕ} {seen : Symbol}
     (there : RowLeaves t rows w L m over i range j at seen) where
@@ -161,10 +145,6 @@ module _ {t : Table} {rows : List ℕ} {source : Source} {w : List ℕ} {L : ℕ
   pub expand_shows : Shows t rows (i / 32 / 64) range
   expand_shows =
       subst (Shows t rows (i / 32 / 64)) (sym asked) (waiting.sources.shows (i / 32 / 64) (omega (arith, waiting.low)))
-
-  -- and after each of them there is room for the next place
-  pub expand_inside : (j : ℕ) {at : ℕ} → at ≡ place_in range j → j < range.many → at + range.apart ≤ length rows
-  expand_inside j place few = omega (arith, place, expand_shows.inside j few)
 
   -- a situation that is no longer pending is followed, row by row
   pub expand_begins : Searching t w L m' over i (Shown rows range 0)

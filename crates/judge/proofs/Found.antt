@@ -10,8 +10,7 @@ use lib.Seq.{length-take-le, take_all}
 use Rattle.bits.specs.Bit.{bit, Bytes}
 use Rattle.bits.specs.Size.{Size}
 use Rattle.ones.specs.Ones.{Ones}
-use Rattle.bits.proofs.Change.{bit-take_low, bit_zeros}
-use Rattle.bits.proofs.Size.{size_numbered}
+use Rattle.bits.proofs.Change.{bit_zeros}
 use Rattle.table.specs.Table.{Table, Accepting}
 use Rattle.bits.specs.Tells.{Tells}
 use Rattle.table.specs.declared.source.Source.{Source}
@@ -113,10 +112,6 @@ module _ {t : Table} {w : List ℕ} {L : ℕ} {m : List ℕ} {over : Bool} (foun
   -- and is counted whole
   half_whole : {c : ℕ} → Ones (take mark_bytes (take first_half m)) c → Ones (take first_half m) c
   half_whole {c} = subst (λ (l : List ℕ). Ones l c) (take_all mark_bytes (take first_half m) (omega (arith, half_length)))
-
-  -- its ones are no more than its bits
-  pub count_low : {c : ℕ} → Ones (take mark_bytes (take first_half m)) c → c ≤ situations
-  count_low ones = size_numbered (half_whole ones).size situations (λ i. i) (λ i one. (i, omega (arith, bit-take_low m first_half i one), refl))
 
   -- the verdict, the count and the marks
   pub found_decided

@@ -3,15 +3,14 @@ use Prim.Native.Nat.{ℕ, ◌<◌}
 use native.Mathlib.Omega.{arith}
 use mathlib.Core.Path.{◌≡◌}
 use mathlib.Core.Bool.{Bool, false}
-use Rattle.std.specs.Prelude.{None}
 use mathlib.Core.List.{List}
 use lib.ListN.{length}
 use Rattle.judgement.specs.Marks.{mark_bytes}
 use Rattle.table.specs.Table.{Table}
 use Rattle.table.specs.Inside.Showing.{Sources}
 use Rattle.table.specs.declared.source.Source.{Source}
-use Rattle.judge.specs.Inside.Search.{marked, Between, Searched}
-use Rattle.judge.specs.Inside.Inner.{Pending, Picked, Waiting, Expanded, Unmarked}
+use Rattle.judge.specs.Inside.Search.{marked, Between}
+use Rattle.judge.specs.Inside.Inner.{Pending, Waiting, Expanded, Unmarked}
 use Rattle.judge.proofs.Searching.{search_begins}
 use Rattle.judge.proofs.Left.{left, left_falls}
 
@@ -28,7 +27,3 @@ module _ {t : Table} {rows : List ℕ} {source : Source} {w : List ℕ} {L : ℕ
   pub expand_falls : {m' : List ℕ} {over past : Bool} {i : ℕ} → Waiting t rows source w L m over i → Expanded t w L m m' past i → left m' < left m
   expand_falls {m'} {i = i} waiting done =
       left_falls m m' done.keeps i waiting.low (λ f. omega (arith, f.not_pending, waiting.waits)) done.done
-
--- where none is picked, none waits
-pub picked_none : {t : Table} {w : List ℕ} {L : ℕ} {m : List ℕ} {over : Bool} → Between t w L m over → Picked m None → Searched t w L m over
-picked_none between picked = record { between = between; rest = picked }

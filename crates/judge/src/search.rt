@@ -4,8 +4,7 @@ ghost use Rattle.std.specs.Prelude.{◌≡◌, ◌&&◌};
 ghost use Rattle.table.specs.Fields.{table_of};
 ghost use Rattle.cells.specs.Code.{symbol_is};
 ghost use Rattle.machine.specs.Step.{symbol_fits, counter_fits};
-ghost use Rattle.judge.specs.Inside.Search.{Searched};
-ghost use Rattle.judge.specs.Inside.Inner.{RowHere, RowLeaves, RowFollowed, Waiting, Expanded, Unmarked};
+ghost use Rattle.judge.specs.Inside.Methods.{Here, Leaves, Followed, Waiting, Expanded, Unmarked, Searched};
 
 use super::pending::{Hints, MARK_BYTES, SITUATIONS};
 use cells::Symbol;
@@ -51,8 +50,8 @@ impl Search<'_> {
         marks: &mut [u8; MARK_BYTES],
         hints: &mut Hints,
     ) -> bool
-        requires { RowLeaves (table_of self.now.image.now) self.now.rows.now self.now.word.now self.now.limit marks.old over shown.i shown.range shown.j shown.at (symbol_is shown.seen) }
-        ensures { RowFollowed (table_of self.now.image.now) self.now.rows.now self.now.word.now self.now.limit marks.old marks.new result shown.i shown.range shown.j }
+        requires { Leaves self.now marks.old over shown }
+        ensures { Followed self.now marks.old marks.new result shown }
     {
         let i = shown.i;
         let row = rows::row_here(self.rows, shown.at);
@@ -78,8 +77,8 @@ impl Search<'_> {
         marks: &mut [u8; MARK_BYTES],
         hints: &mut Hints,
     ) -> bool
-        requires { RowHere (table_of self.now.image.now) self.now.rows.now self.now.word.now self.now.limit marks.old over shown.i shown.range shown.j shown.at (symbol_is shown.seen) }
-        ensures { RowFollowed (table_of self.now.image.now) self.now.rows.now self.now.word.now self.now.limit marks.old marks.new result shown.i shown.range shown.j }
+        requires { Here self.now marks.old over shown }
+        ensures { Followed self.now marks.old marks.new result shown }
     {
         if rows::leaves(self.rows, shown.at, shown.i / 32 / 64) {
             return self.follow(shown, over, marks, hints);
@@ -89,8 +88,8 @@ impl Search<'_> {
 
     // Follows every row that a source shows for situation i, which is pending.
     fn expand(&self, i: usize, over: bool, marks: &mut [u8; MARK_BYTES], hints: &mut Hints) -> bool
-        requires { Waiting (table_of self.now.image.now) self.now.rows.now self.now.source self.now.word.now self.now.limit marks.old over i }
-        ensures { Expanded (table_of self.now.image.now) self.now.word.now self.now.limit marks.old marks.new result i }
+        requires { Waiting self.now marks.old over i }
+        ensures { Expanded self.now marks.old marks.new result i }
     {
         bits::clear_bit(marks, i + SITUATIONS);
         let range = rows_of(self.source, self.rows, i / 32 / 64);
@@ -113,8 +112,8 @@ impl Search<'_> {
 
     // Marks all that is reached. The answer is whether a step above the limit was met.
     pub fn run(&self, marks: &mut [u8; MARK_BYTES]) -> bool
-        requires { Unmarked (table_of self.now.image.now) self.now.rows.now self.now.source self.now.word.now self.now.limit marks.old }
-        ensures { Searched (table_of self.now.image.now) self.now.word.now self.now.limit marks.new result }
+        requires { Unmarked self.now marks.old }
+        ensures { Searched self.now marks.new result }
     {
         let mut hints = Hints::none();
         hints.mark(0, marks);

@@ -25,14 +25,6 @@ overflow_add-sum c =
       length-take 65536 c.args.m.now,
     )
 
-pub loop-part-preserved : goal.loop-part-preserved
-loop-part-preserved c =
-    let parts = rw c.in-Some.ensures.steps.1.0 at c.loop-part.invariant.sum in
-    record {
-      size = c.in-Some.ensures.steps.0 ∙ c.loop-part.invariant.size;
-      sum = omega (arith, sum_by-append count_ones c.in-Some.part.now c.next.new.self.rest.now, parts, c.ones_in.ensures);
-    }
-
 pub returns : goal.returns
 returns c =
     ones_all _ (first_bytes _ (λ i. (c.type_inv.m i).fits) 65536)
