@@ -11,11 +11,11 @@ ghost use Rattle.table.specs.Fields.{two_at, table_of, width_of, row_count, lett
 
 use table::form;
 
-// The number of two bytes.
+// The number of two bytes. (Not by `u16::from_be_bytes`: with that a judge of a table with many rows takes 1.75 times as long.)
 pub fn two(high: u8, low: u8) -> usize
     ensures { result ≡ high * 256 + low }
 {
-    u16::from_be_bytes([high, low]) as usize
+    (high as usize) * 256 + low as usize
 }
 
 // The two-byte number that starts here, high byte first.
