@@ -22,7 +22,7 @@ use Rattle.table.proofs.Image.{length-rows, length-field}
 use Rattle.construction.specs.Construction.{with_bits, index_in}
 use Rattle.construction.specs.Compile.{image_room}
 use Rattle.bits.specs.Inside.Over.{over}
-use Rattle.compiler.specs.Inside.Writing.{Sheet, front, accept_bytes, written, row_place, Holds, Filled, Room, Writes, Marks, Heads, Counts}
+use Rattle.compiler.specs.Inside.Writing.{Sheet, front, accept_bytes, written, row_place, Holds, Filled, Room, Writes, Sets, Heads, Counts}
 use Rattle.construction.proofs.SetBit.{length_accept}
 
 regroup : (a b c d : List ℕ) → (a ++ (b ++ c)) ++ d ≡ a ++ (b ++ (c ++ d))
@@ -221,10 +221,10 @@ pub marks_bit : (before after part : List ℕ) (letters from many state : ℕ)
     → many ≡ accepting_bytes
     → part ≡ with_bit (take many (drop from before)) state
     → after ≡ take from before ++ (part ++ drop many (drop from before))
-    → Marks before after state
+    → Sets before after state
 unfolding written
 marks_bit before after part letters from many state count start sixteen part-is after_is =
-    record { marks = λ holds. mark _ _ _ holds (start ∙ ap accepting_place (count.counts holds)) }
+    record { sets = λ holds. mark _ _ _ holds (start ∙ ap accepting_place (count.counts holds)) }
   where
     mark : (h : Sheet) (accepting : List ℕ) (rows : List Row)
         → Holds h accepting rows before

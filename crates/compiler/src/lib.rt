@@ -17,16 +17,16 @@ use construction::Sizes;
 use reader::Counts;
 use see::Cursor;
 use table::reason::{Reason, Refusal};
+use write::Image;
 
-// The emitter stands in a text and in an image: at the state that the next statement starts at, with the next state to be
-// taken, and at the byte at which the next row is written.
+// The emitter goes over a text and writes an image. It stands at the state that the next statement starts at, with the next
+// state to be taken.
 #[derive(Drop)]
-struct Emitter<'a> {
+struct Emitter<'a, 'o> {
     cursor: Cursor<'a>,
-    out: &'a mut [u8],
+    image: &'a mut Image<'o>,
     state: usize,
     next: usize,
-    row: usize,
 }
 
 // Nothing is written before the text is read to its end, so a refusal leaves every byte as it was.

@@ -2,7 +2,7 @@
 use mathlib.Core.Path.{refl}
 use Rattle.compiler.proofs.AtomRows.{symbol_codes}
 use borrow.Author.Rules.{rules}
-use Rattle.compiler.proofs.walk.code_of.Goals as goal
+use Rattle.compiler.proofs.write.Image.code_of.Goals as goal
 
 pub letter-requires : goal.letter-requires
 letter-requires c = search rules
