@@ -14,7 +14,6 @@ mod write;
 ghost use Rattle.construction.specs.Compile.{Compiles};
 
 use construction::Sizes;
-use reader::Counts;
 use see::Cursor;
 use table::reason::{Reason, Refusal};
 use write::Image;
@@ -45,11 +44,11 @@ pub fn compile(text: &[u8], image: &mut [u8]) -> Result<Sizes, Refusal>
             place: 0,
         });
     }
-    let Counts { states, rows } = reader::read(text)?;
-    let bytes = emit::emit(text, image, states, rows);
+    let counts = reader::read(text)?;
+    let bytes = emit::emit(text, image, counts);
     Ok(Sizes {
         bytes,
-        states,
-        rows,
+        states: counts.states,
+        rows: counts.rows,
     })
 }

@@ -4,6 +4,7 @@ ghost use Rattle.compiler.specs.Inside.Setting.{Letters, Lists, AtTruth, Tells, 
 
 use super::see::Cursor;
 use super::write::{Image, header};
+use reader::Counts;
 use table::form;
 use text::{Sign, Word};
 
@@ -71,14 +72,13 @@ fn emit_settings(cursor: &mut Cursor<'_>, out: &mut [u8]) -> Settled
 pub fn begin<'o>(
     cursor: &mut Cursor<'_>,
     out: &'o mut [u8],
-    states: usize,
-    rows: usize,
+    counts: Counts,
 ) -> Image<'o>
-    requires { Emittable cursor.old.text.now out.old states rows × (cursor.old.at ≡ 0) }
-    ensures { Begins cursor.old cursor.new out.entry states rows result }
+    requires { Emittable cursor.old.text.now out.old counts.states counts.rows × (cursor.old.at ≡ 0) }
+    ensures { Begins cursor.old cursor.new out.entry counts.states counts.rows result }
 {
     let settled = emit_settings(cursor, out);
-    header(out, settled.count, settled.decr_on_zero, states, rows);
+    header(out, settled.count, settled.decr_on_zero, counts);
     cursor.skip(5);
     Image {
         out,

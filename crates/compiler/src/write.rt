@@ -8,6 +8,7 @@ ghost use Rattle.construction.specs.Construction.{test_row, free, index_in};
 ghost use Rattle.bits.specs.Inside.Over.{over};
 ghost use Rattle.compiler.specs.Inside.Writing.{Held, Room, Adds, Marks, Heads, Indexes, Counts};
 
+use reader::Counts;
 use table::{Row, form};
 
 // The two bytes of a number.
@@ -30,14 +31,14 @@ fn put(out: &mut [u8], at: usize, bytes: &[u8])
 const ACCEPTING: u8 = form::ACCEPTING_BYTES as u8;
 
 // Everything before the rows but the letters, which stand already. No state accepts yet.
-pub fn header(out: &mut [u8], count: usize, decr_on_zero: bool, states: usize, rows: usize)
-    requires { (count ≤ 16) × (states ≤ 128) × (rows ≤ 1024) × (image_room ≤ length out.old) }
-    ensures { Heads out.old out.new count decr_on_zero states rows }
+pub fn header(out: &mut [u8], count: usize, decr_on_zero: bool, counts: Counts)
+    requires { (count ≤ 16) × (counts.states ≤ 128) × (counts.rows ≤ 1024) × (image_room ≤ length out.old) }
+    ensures { Heads out.old out.new count decr_on_zero counts.states counts.rows }
 {
     let [_, letters] = two_bytes(count);
     put(out, 0, &[1, 0, 1, form::FIRST_EDITION, 2, 0, letters]);
     let at = count + form::DECR_ON_ZERO_TAG;
-    let [high, low] = two_bytes(states);
+    let [high, low] = two_bytes(counts.states);
     let flag = u8::from(decr_on_zero);
     put(
         out,
@@ -46,7 +47,7 @@ pub fn header(out: &mut [u8], count: usize, decr_on_zero: bool, states: usize, r
     );
     let accepting = count + form::ACCEPTING_PLACE;
     put(out, accepting, &[0; form::ACCEPTING_BYTES]);
-    let [high, low] = two_bytes(form::ROW_BYTES * rows);
+    let [high, low] = two_bytes(form::ROW_BYTES * counts.rows);
     put(out, count + form::ROWS_TAG, &[6, high, low]);
 }
 

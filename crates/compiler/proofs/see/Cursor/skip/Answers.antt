@@ -8,9 +8,6 @@ use Rattle.compiler.specs.Inside.Seeing.{Reaches}
 use Rattle.compiler.proofs.Seeing.{reach_none, skip_more, end_or}
 use Rattle.compiler.proofs.see.Cursor.skip.Goals as goal
 
-pub loop-init : goal.loop-init
-loop-init c = (refl, λ ts h fits. reach_none h)
-
 pub loop-preserved : goal.loop-preserved
 loop-preserved c = (
   c.loop.invariant.0,
@@ -21,12 +18,3 @@ loop-preserved c = (
       skip_more r ts (omega arith) (c.loop.invariant.1 ts h fits) first end,
 )
 
-pub returns : goal.returns
-returns c =
-    let all : c.loop.counter ≡ c.args.many = omega arith in
-    record {
-      text = rw c.loop.invariant.0 refl;
-      passes = record {
-        behind = λ ts here fits. subst (λ (n : ℕ). Reaches c.args.self.now.text.now c.args.self.now.at n c.loop.self.at (drop n ts)) all (c.loop.invariant.1 ts here fits);
-      };
-    }
