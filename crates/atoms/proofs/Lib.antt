@@ -1,5 +1,4 @@
--- What the tokens of an atom say, one after the other, what the rest of a match knows, and what a `?` hands on.
-pub mod Arms
+-- What the tokens of an atom say, one after the other, what a `?` hands on, and when digits are 0.
 pub mod Exits
 pub mod Said
 pub mod Zero

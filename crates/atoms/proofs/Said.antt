@@ -1,26 +1,19 @@
 -- What an atom's tokens say, one after the other, and that they say one thing only.
 use Prim.Native.Nat.{ℕ}
 use mathlib.Core.Path.{◌≡◌, refl, sym, ap, ◌∙◌, subst}
-use mathlib.Core.Bool.{Bool, true, false, not}
-use mathlib.Core.List.{List, [], ◌∷◌}
+use mathlib.Core.Bool.{Bool, true, false}
+use mathlib.Core.List.{List}
 use Rattle.std.specs.Prelude.{Result, Ok, Err}
-use mir.Val.{has_key}
-use denote.Enum.Declared.{tag_of}
-use types.Run.{OneOf, miss}
 use Rattle.text.specs.First.{FirstToken}
 use Rattle.text.specs.declared.Word.{Word}
 use Rattle.text.specs.declared.Sign.{Sign}
 use Rattle.text.specs.declared.Token.{Token}
-use Rattle.text.specs.contracts.Sign as sign-type
-use Rattle.text.specs.contracts.Word as word-type
-use Rattle.text.specs.contracts.Token as token-type
 use Rattle.text.proofs.Once.{first_once}
 use Rattle.table.specs.declared.reason.Refusal.{Refusal}
 use Rattle.atoms.specs.Atom.{refusal_of, Read, Next, Case, stands, other, Tested, letter_read, counter, IsTested, by_read, by_c, Compared, IsCompared, same, differs, Object, IsObject, a_letter, lend, rend, Numeral, IsNumeral, a_number, found, zero_found, ObjectSays, NumeralSays, ComparedSays, TestedSays, AtomAt}
 use Rattle.atoms.specs.Inside.Parts.{ComparisonSays, SymbolSays, behind_zero, ZeroSays}
 use Rattle.atoms.specs.declared.Symbol.{Symbol}
 use Rattle.atoms.specs.declared.Atom.TheVariants as Atom
-use Rattle.atoms.proofs.Arms.{passing}
 
 -- a relation that gives one value at most
 abbrev Once : {A B : Type 0} → (A → B → Type 0) → Type 0
@@ -124,40 +117,36 @@ module _ {A R S : Type 0} {StandsFor : Token → A → Type 0} {Part : A → Res
   case_err (stands {a = a} i x) e on = stands i (on a (subst (Part a) e x))
   case_err {d = d} (other h) e on = case_other k refl h cc
 
--- so many numbers but for these
-abbrev pub but : List ℕ → ℕ → List ℕ
-but named many = passing (λ n. not (has_key named n)) 0 many
-
 -- what is no word tests nothing, what is no sign compares nothing, what is no number is none
-pub no_test : (k : Token) → OneOf (but (0 ∷ []) 6) (tag_of token-type.the_type k) → (a : Tested) → ¬ IsTested k a
-no_test k h a by_read = miss (but (0 ∷ []) 6) 0 tt h
-no_test k h a by_c = miss (but (0 ∷ []) 6) 0 tt h
+pub no_test : {k : Token} → ((p q : ℕ) (x : Word) → ¬ (k ≡ Token.Word p q x)) → (a : Tested) → ¬ IsTested k a
+no_test h a by_read = h _ _ _ refl
+no_test h a by_c = h _ _ _ refl
 
-pub no_comparison : (k : Token) → OneOf (but (3 ∷ []) 6) (tag_of token-type.the_type k) → (a : Compared) → ¬ IsCompared k a
-no_comparison k h a same = miss (but (3 ∷ []) 6) 3 tt h
-no_comparison k h a differs = miss (but (3 ∷ []) 6) 3 tt h
+pub no_comparison : {k : Token} → ((p q : ℕ) (x : Sign) → ¬ (k ≡ Token.Sign p q x)) → (a : Compared) → ¬ IsCompared k a
+no_comparison h a same = h _ _ _ refl
+no_comparison h a differs = h _ _ _ refl
 
-pub no_numeral : (k : Token) → OneOf (but (1 ∷ []) 6) (tag_of token-type.the_type k) → (a : Numeral) → ¬ IsNumeral k a
-no_numeral k h a a_number = miss (but (1 ∷ []) 6) 1 tt h
-
--- nor do another word and another sign
-pub other_word : {p q : ℕ} (x : Word) → OneOf (but (10 ∷ 19 ∷ []) 21) (tag_of word-type.the_type x) → (a : Tested) → ¬ IsTested (Token.Word p q x) a
-other_word x h a by_read = miss (but (10 ∷ 19 ∷ []) 21) 19 tt h
-other_word x h a by_c = miss (but (10 ∷ 19 ∷ []) 21) 10 tt h
-
-pub other_sign : {p q : ℕ} (x : Sign) → OneOf (but (1 ∷ 2 ∷ []) 19) (tag_of sign-type.the_type x) → (a : Compared) → ¬ IsCompared (Token.Sign p q x) a
-other_sign x h a same = miss (but (1 ∷ 2 ∷ []) 19) 1 tt h
-other_sign x h a differs = miss (but (1 ∷ 2 ∷ []) 19) 2 tt h
-
-pub other_mark : {p q : ℕ} (x : Word) → OneOf (but (8 ∷ 9 ∷ []) 21) (tag_of word-type.the_type x) → (a : Object) → ¬ IsObject (Token.Word p q x) a
-other_mark x h a lend = miss (but (8 ∷ 9 ∷ []) 21) 8 tt h
-other_mark x h a rend = miss (but (8 ∷ 9 ∷ []) 21) 9 tt h
+pub no_numeral : {k : Token} → ((p q : ℕ) → ¬ (k ≡ Token.Number p q)) → (a : Numeral) → ¬ IsNumeral k a
+no_numeral h a a_number = h _ _ refl
 
 -- what is no word and no letter is no object
-pub no_object : (k : Token) → OneOf (but (0 ∷ 2 ∷ []) 6) (tag_of token-type.the_type k) → (a : Object) → ¬ IsObject k a
-no_object k h a a_letter = miss (but (0 ∷ 2 ∷ []) 6) 2 tt h
-no_object k h a lend = miss (but (0 ∷ 2 ∷ []) 6) 0 tt h
-no_object k h a rend = miss (but (0 ∷ 2 ∷ []) 6) 0 tt h
+pub no_object : {k : Token} → ((p q : ℕ) (x : Word) → ¬ (k ≡ Token.Word p q x)) → ((p q b : ℕ) → ¬ (k ≡ Token.Letter p q b)) → (a : Object) → ¬ IsObject k a
+no_object h g a a_letter = g _ _ _ refl
+no_object h g a lend = h _ _ _ refl
+no_object h g a rend = h _ _ _ refl
+
+-- nor do another word and another sign
+pub other_word : {p q : ℕ} {x : Word} → ¬ (x ≡ Word.Read) → ¬ (x ≡ Word.C) → (a : Tested) → ¬ IsTested (Token.Word p q x) a
+other_word h g a by_read = h refl
+other_word h g a by_c = g refl
+
+pub other_sign : {p q : ℕ} {x : Sign} → ¬ (x ≡ Sign.Equals) → ¬ (x ≡ Sign.Differs) → (a : Compared) → ¬ IsCompared (Token.Sign p q x) a
+other_sign h g a same = h refl
+other_sign h g a differs = g refl
+
+pub other_mark : {p q : ℕ} {x : Word} → ¬ (x ≡ Word.Lend) → ¬ (x ≡ Word.Rend) → (a : Object) → ¬ IsObject (Token.Word p q x) a
+other_mark h g a lend = h refl
+other_mark h g a rend = g refl
 
 -- behind a comparison
 module _ {text : List ℕ} {from : ℕ} {k : Token} (third : Bool → Token → Read → Type 0) {r : Result (Bool × ℕ) Refusal} (f : FirstToken text from k) (h : ComparisonSays k r) where

@@ -1,8 +1,8 @@
--- When digits are 0, and where a number's digits stand.
-use Prim.Native.Nat.{ℕ, ◌+◌, ◌*◌, ◌-◌, ◌≤◌, ◌<◌}
+-- When digits are 0.
+use Prim.Native.Nat.{ℕ, ◌+◌, ◌*◌, ◌-◌}
 use native.Mathlib.Omega.{arith}
 use native.Mathlib.Decide.{ℕ_discrete}
-use mathlib.Core.Path.{◌≡◌, refl, sym, ap, ap₂, ◌∙◌, subst}
+use mathlib.Core.Path.{◌≡◌, refl, sym, ap, ap₂, ◌∙◌}
 use mathlib.Core.Bool.{Bool, false, not, ◌&&◌}
 use mathlib.Core.List.{List, [], ◌∷◌}
 use lib.ListN.{length, get_or}
@@ -10,20 +10,8 @@ use lib.Dec.{T, leb, eqb}
 use borrow.Author.Tests.{le-leb, lt-leb, eq-eqb, ne_eqb}
 use Rattle.bits.specs.Byte.{is_digit}
 use Rattle.text.specs.Token.{every}
-use Rattle.text.specs.First.{FirstToken}
-use Rattle.text.specs.declared.Token.{Token}
 use Rattle.rule.specs.Limits.{in_form, value_from}
 use Rattle.rule.proofs.Machine.Digits.{digit_bounds, digit_at}
-
--- where a number's digits stand
-pub record Within (text : List ℕ) (p q : ℕ) : Type 0 where
-  pub some : p < q
-  pub within : q ≤ length text
-
-pub number_bytes : {text : List ℕ} {from p q : ℕ} {k : Token} → FirstToken text from k → k ≡ Token.Number p q → Within text p q
-number_bytes {text} {from} f e =
-    let begins = (subst (λ (u : Token). FirstToken text from u) e f).begins in
-    record { some = begins.some; within = begins.within }
 
 -- one digit is 0 or is not
 pub one_zero : (l : List ℕ) → T (every is_digit l) → length l ≡ 1 → eqb (get_or l 0 0) 48 ≡ (in_form l && leb (value_from 0 l) 0)

@@ -110,13 +110,15 @@ fn comparison_of(token: Token) -> Result<(bool, usize), Refusal>
 fn symbol_of(token: Token) -> Result<(Symbol, usize), Refusal>
     ensures { SymbolSays token result }
 {
-    match token {
-        Token::Letter { at, end, byte } => Ok((Symbol::Letter { byte, place: at }, end)),
-        Token::Word { end, word, .. } => match word {
-            Word::Lend => Ok((Symbol::Lend, end)),
-            Word::Rend => Ok((Symbol::Rend, end)),
-            _ => Err(refuse(token)),
-        },
+    let Token::Word { end, word, .. } = token else {
+        let Token::Letter { at, end, byte } = token else {
+            return Err(refuse(token));
+        };
+        return Ok((Symbol::Letter { byte, place: at }, end));
+    };
+    match word {
+        Word::Lend => Ok((Symbol::Lend, end)),
+        Word::Rend => Ok((Symbol::Rend, end)),
         _ => Err(refuse(token)),
     }
 }

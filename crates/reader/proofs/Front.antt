@@ -96,7 +96,7 @@ unmarked (r ∷ rs) l t h =
         absurd (h r.reads (name_token_lem (name r.reads) l (there ∙ sym here)))
     by_cases false e g = g
 
-named_class : (n : Name) (l : List ℕ) → IsNamed n l → classify (word l) ≡ named n l
+pub named_class : (n : Name) (l : List ℕ) → IsNamed n l → classify (word l) ≡ named n l
 named_class (reserved b) l e = ap (λ (m : List ℕ). classify (word m)) e
 named_class unreserved l h = unmarked words l tt h
 

@@ -1,56 +1,48 @@
--- The letters of the alphabet as they are listed, and answers that carry them.
+-- Answers that carry the letters.
 use Prim.Native.Nat.{ℕ}
-use native.Mathlib.Omega.{arith}
-use mathlib.Core.Path.{◌≡◌, sym, ap, ◌∙◌, subst}
-use mathlib.Core.Bool.{Bool, true, false, ◌||◌}
-use mathlib.Core.List.{List, [], ◌∷◌, ◌++◌}
-use lib.ListN.{length}
-use lib.Dec.{leb}
-use borrow.Author.Tests.{le-leb, lt-leb}
-use Rattle.rule.specs.Limits.{is_in}
-use Rattle.rule.specs.Inside.Machine.{Stack, with_letter, excess}
-use Rattle.reader.specs.Inside.Answers.{Spot, totals, Answers, alphabet_of, Sized, AnswersWith}
-use Rattle.reader.specs.declared.answers.Counts.{Counts}
+use mathlib.Core.Path.{◌≡◌, subst}
+use mathlib.Core.List.{List, [], ◌++◌}
+use Rattle.std.specs.Prelude.{Result, Ok, Err}
+use Rattle.rule.specs.Inside.Machine.{Stack, Totals}
 use Rattle.table.specs.declared.reason.Refusal.{Refusal}
-use Rattle.reader.specs.declared.answers.Read.{Read}
-use Rattle.reader.specs.declared.answers.Read.TheVariants.{Refused}
+use Rattle.reader.specs.Inside.Answers.{Spot, spot, before, Stops, Arrives, Answers, alphabet_of, AnswersWith}
+use Rattle.reader.specs.declared.answers.Reader.{Reader}
 use Rattle.reader.specs.declared.letters.Letters.{Letters}
-use Rattle.reader.specs.declared.settings.Settings.{Settings}
-use Rattle.reader.proofs.Alphabet.{alphabet_length}
+use Rattle.reader.proofs.Moves.{under, under_stops, arrives_on, stops_on}
 
-module _ (b : ℕ) {l : Letters} (h : Sized l) where
-  pub repeated : is_in b (alphabet_of l) ≡ true → excess b (alphabet_of l) ≡ true
-  repeated e = ap (λ (t : Bool). t || leb 16 (length (alphabet_of l))) e
+module _ {text : List ℕ} {s : Spot} {x : Stack} where
+  -- what was read, and its letters
+  pub with_went : {u : Result (Reader × Letters) Refusal} {p : Reader × Letters} → AnswersWith text s x u → u ≡ Ok p → Arrives text s x (alphabet_of p.1) p.0
+  with_went h e = (subst (AnswersWith text s x) e h).right
 
-  pub seventeenth : is_in b (alphabet_of l) ≡ false → l.count ≡ 16 → excess b (alphabet_of l) ≡ true
-  seventeenth e full =
-      ap (λ (t : Bool). t || leb 16 (length (alphabet_of l))) e
-      ∙ le-leb 16 (length (alphabet_of l)) (omega (arith, alphabet_length h))
+  -- or the refusal
+  pub with_stop : {u : Result (Reader × Letters) Refusal} {f : Refusal} → AnswersWith text s x u → u ≡ Err f → Stops text s f
+  with_stop h e = (subst (AnswersWith text s x) e h).right
 
-  pub another : is_in b (alphabet_of l) ≡ false → ¬ (l.count ≡ 16) → excess b (alphabet_of l) ≡ false
-  another e room =
-      ap (λ (t : Bool). t || leb 16 (length (alphabet_of l))) e
-      ∙ lt-leb 16 (length (alphabet_of l)) (omega (arith, alphabet_length h, h.few))
+  pub with_refused : {f : Refusal} → Answers text s [] [] (Err f) → AnswersWith text s x (Err f)
+  with_refused h = record { right = h.right }
 
-pub with_letter_lem : (b : ℕ) (l m : Letters) (c : Counts) → alphabet_of m ≡ alphabet_of l ++ (b ∷ []) → with_letter b (totals (alphabet_of l) c) ≡ totals (alphabet_of m) c
-with_letter_lem b l m c e = ap (λ (a : List ℕ). totals a c) (sym e)
+  pub with_refused_on : {r : Reader} {y : Stack} {a : List ℕ} {f : Refusal} → Arrives text s y a r → Answers r.text.now (before r y a) [] [] (Err f) → AnswersWith text s x (Err f)
+  with_refused_on g h = record { right = stops_on g h.right }
 
--- an answer from before the letters, whatever they are
-pub without : {text : List ℕ} {s : Spot} {x : Stack} {u : Read} {r : Settings}
-    → (r.read ≡ u) × Sized r.letters
-    → ((a : List ℕ) → Answers text s x a u)
-    → AnswersWith text s x r
-without {text} {s} {x} {r = r} e h =
-    record {
-      answers = subst (λ (v : Read). Answers text s x (alphabet_of r.letters) v) (sym e.0) (h (alphabet_of r.letters));
-      sized = e.1;
-    }
+  pub with_onward : {r : Reader} {y : Stack} {a : List ℕ} {u : Result (Reader × Letters) Refusal} → Arrives text s y a r → AnswersWith r.text.now (before r y a) x u → AnswersWith text s x u
+  with_onward {u = Ok p} g h = record { right = arrives_on g h.right }
+  with_onward {u = Err f} g h = record { right = stops_on g h.right }
 
--- a refusal behind letters
-pub refused_behind : {text : List ℕ} {s : Spot} {x : Stack} {u : Refusal} {l : Letters} {r : Settings}
-    → r ≡ record { read = Refused u; letters = l }
-    → Sized l
-    → Answers text s x (alphabet_of l) (Refused u)
-    → AnswersWith text s x r
-refused_behind {text} {s} {x} e h a =
-    subst (λ (r : Settings). AnswersWith text s x r) (sym e) (record { answers = a; sized = h })
+-- more is expected behind
+module _ {text : List ℕ} {from : ℕ} {x z : Stack} {t : Totals} (w : Stack) where
+  pub with_over : {u : Result (Reader × Letters) Refusal} → AnswersWith text (spot from x t) z u → AnswersWith text (spot from (x ++ w) t) (z ++ w) u
+  with_over {u = Ok p} h = record { right = record { comes = under w h.right.comes; same = h.right.same } }
+  with_over {u = Err f} h = record { right = under_stops w h.right }
+
+  pub with_gone : {u : Result (Reader × Letters) Refusal} {p : Reader × Letters}
+      → AnswersWith text (spot from x t) z u
+      → u ≡ Ok p
+      → Arrives text (spot from (x ++ w) t) (z ++ w) (alphabet_of p.1) p.0
+  with_gone h e = with_went (with_over h) e
+
+  pub with_stopped : {y : Stack} {u : Result (Reader × Letters) Refusal} {f : Refusal}
+      → AnswersWith text (spot from x t) z u
+      → u ≡ Err f
+      → AnswersWith text (spot from (x ++ w) t) y (Err f)
+  with_stopped h e = record { right = with_stop (with_over h) e }

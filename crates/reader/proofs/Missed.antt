@@ -1,36 +1,25 @@
 -- A token that no choice takes is refused where it stands, and so is the end of the text.
 use Prim.Native.Nat.{ℕ}
-use native.Mathlib.Omega.{arith}
 use mathlib.Core.Path.{◌≡◌, refl, sym, ap, subst}
 use mathlib.Core.Bool.{Bool, true, false, not}
 use mathlib.Core.Option.{Option, none, some}
 use mathlib.Core.List.{List, [], ◌∷◌, map}
+use Rattle.std.specs.Prelude.{Err}
 use lib.Dec.{T, T_not, eqb, eqb_refl}
 use mir.Facts.{or_no}
 use mir.Val.{has_key}
-use denote.Enum.Declared.{tag_of}
-use types.Run.{OneOf}
 use Rattle.text.specs.Token as Spelt
 use Rattle.text.specs.Token.{word, number, letter, sign}
 use Rattle.text.specs.First.{Name, reserved, unreserved, name, written, part, FirstToken}
-use Rattle.text.specs.declared.Word.{Word}
-use Rattle.text.specs.declared.Sign.{Sign}
 use Rattle.text.specs.declared.Token.{Token}
-use Rattle.text.specs.contracts.Sign as sign-type
-use Rattle.text.specs.contracts.Word as word-type
-use Rattle.text.specs.contracts.Token as token-type
 use Rattle.text.proofs.Same.{same_token_lem}
 use Rattle.text.specs.Inside.Same.{same_token}
-use Rattle.text.proofs.Follow.{place_of}
-use Rattle.rule.specs.Inside.Class.{spell, Class, mark, other, token_of, classify}
+use Rattle.rule.specs.Inside.Class.{spell, Class, mark, other, token_of}
 use Rattle.rule.proofs.Machine.Class.{token_of_class}
 use Rattle.rule.specs.Inside.Machine.{Expected, Stack, Totals, Move, Choice, on, on_number, on_letter, choices, take, pick, run}
-use Rattle.table.specs.declared.reason.Reason.TheVariants as Reason
 use Rattle.atoms.specs.Atom.{refusal_of}
 use Rattle.reader.specs.Inside.Answers.{spot, Stops, Answers}
 use Rattle.table.specs.declared.reason.Refusal.{Refusal}
-use Rattle.reader.specs.declared.answers.Read.TheVariants.{Refused}
-use Rattle.atoms.proofs.Arms.{passing, left_passes, values_left, value_left}
 use Rattle.reader.proofs.Front.{named, class_of, front_word, front_number, front_letter, front_sign}
 use Rattle.reader.proofs.Moves.{misses, under_stops}
 
@@ -76,14 +65,6 @@ module _ {A : Type 0} where
       let none_here = take_none c k (λ e. T_not (eqb (sort_taken c) (sort (token_of k))) here.0 (rw e (eqb_refl (sort_taken c)))) in
       rw (none_here, pick) (untaken_none cs k here.1)
 
-abbrev is_none : {A : Type 0} → Option A → Bool
-is_none none = true
-is_none (some a) = false
-
-is_none_lem : {A : Type 0} (o : Option A) → is_none o ≡ true → o ≡ none
-is_none_lem none e = refl
-is_none_lem (some a) e = let no : ◌≡◌ {A = ℕ} 0 1 = cc in absurd (omega arith)
-
 -- no choice takes this token
 abbrev pub Misses : List ℕ → Totals → Expected → Token → Type 0
 Misses text t x (Token.Word p q w) = pick (choices t p x) (class_of text (Token.Word p q w)) ≡ none
@@ -97,38 +78,41 @@ sort_named : (n : Name) (l : List ℕ) → sort (token_of (named n l)) ≡ 0
 sort_named (reserved b) l = ap sort (token_of_class (word b))
 sort_named unreserved l = refl
 
--- the sorts of tokens, the signs and the words that a symbol does not take
-abbrev pub sorts_left : Totals → Expected → Token → List ℕ
-sorts_left t x k = passing (untaken (choices t (place_of k) x)) 0 6
+-- the sort of a token of the code, and 4 where there is none
+abbrev pub sort_in : Token → ℕ
+sort_in (Token.Word p q w) = 0
+sort_in (Token.Number p q) = 1
+sort_in (Token.Letter p q b) = 2
+sort_in (Token.Sign p q s) = 3
+sort_in (Token.End p) = 4
+sort_in (Token.Broken p) = 4
 
-abbrev pub misses_sign : Totals → Expected → ℕ → Sign → Bool
-misses_sign t x p s = is_none (pick (choices t p x) (classify (sign (written s))))
-
-abbrev pub misses_word : Totals → Expected → ℕ → List ℕ → Word → Bool
-misses_word t x p l w = is_none (pick (choices t p x) (named (name w) l))
-
--- no choice takes it, since nothing of its sort is taken, or of its sort another token only
+-- no choice takes it, since nothing of its sort is taken
 module _ (text : List ℕ) (x : Expected) (t : Totals) where
-  pub missed_sort : (k : Token) → OneOf (sorts_left t x k) (tag_of token-type.the_type k) → Misses text t x k
-  missed_sort (Token.Word p q w) e =
-      untaken_none (choices t p x) (class_of text (Token.Word p q w)) (rw (sort_named (name w) (part text p q)) (left_passes (untaken (choices t p x)) 0 6 0 e))
-  missed_sort (Token.Number p q) e = untaken_none (choices t p x) (Class.number (part text p q)) (left_passes (untaken (choices t p x)) 0 6 1 e)
-  missed_sort (Token.Letter p q b) e = untaken_none (choices t p x) (Class.letter b) (left_passes (untaken (choices t p x)) 0 6 2 e)
-  missed_sort (Token.Sign p q s) e =
-      untaken_none (choices t p x) (class_of text (Token.Sign p q s)) (rw (token_of_class (sign (written s))) (left_passes (untaken (choices t p x)) 0 6 3 e))
-  missed_sort (Token.End p) e = tt
-  missed_sort (Token.Broken p) e = tt
+  pub missed_sort : (k : Token) → ((p : ℕ) → T (untaken (choices t p x) (sort_in k))) → Misses text t x k
+  missed_sort (Token.Word p q w) h = untaken_none (choices t p x) (class_of text (Token.Word p q w)) (rw (sort_named (name w) (part text p q)) (h p))
+  missed_sort (Token.Number p q) h = untaken_none (choices t p x) (Class.number (part text p q)) (h p)
+  missed_sort (Token.Letter p q b) h = untaken_none (choices t p x) (Class.letter b) (h p)
+  missed_sort (Token.Sign p q s) h = untaken_none (choices t p x) (class_of text (Token.Sign p q s)) (rw (token_of_class (sign (written s))) (h p))
+  missed_sort (Token.End p) h = tt
+  missed_sort (Token.Broken p) h = tt
 
-  pub missed_sign : (p q : ℕ) (s : Sign)
-      → OneOf (values_left sign-type.enum (misses_sign t x p)) (tag_of sign-type.the_type s)
-      → Misses text t x (Token.Sign p q s)
-  missed_sign p q s e = is_none_lem (pick (choices t p x) (classify (sign (written s)))) (value_left sign-type.enum (misses_sign t x p) s tt e)
+-- it is no number, or no letter
+pub no_number : (k : Token) → ((p q : ℕ) → ¬ (k ≡ Token.Number p q)) → T (not (has_key (1 ∷ []) (sort_in k)))
+no_number (Token.Word p q w) h = tt
+no_number (Token.Number p q) h = absurd (h p q refl)
+no_number (Token.Letter p q b) h = tt
+no_number (Token.Sign p q s) h = tt
+no_number (Token.End p) h = tt
+no_number (Token.Broken p) h = tt
 
-  pub missed_word : (p q : ℕ) (v : Word)
-      → OneOf (values_left word-type.enum (misses_word t x p (part text p q))) (tag_of word-type.the_type v)
-      → Misses text t x (Token.Word p q v)
-  missed_word p q v e =
-      is_none_lem (pick (choices t p x) (named (name v) (part text p q))) (value_left word-type.enum (misses_word t x p (part text p q)) v tt e)
+pub no_letter : (k : Token) → ((p q b : ℕ) → ¬ (k ≡ Token.Letter p q b)) → T (not (has_key (2 ∷ []) (sort_in k)))
+no_letter (Token.Word p q w) h = tt
+no_letter (Token.Number p q) h = tt
+no_letter (Token.Letter p q b) h = absurd (h p q b refl)
+no_letter (Token.Sign p q s) h = tt
+no_letter (Token.End p) h = tt
+no_letter (Token.Broken p) h = tt
 
 module _ {text : List ℕ} {from : ℕ} {x : Expected} {t : Totals} where
   pub missed : (k : Token) → FirstToken text from k → Misses text t x k → Stops text (spot from (x ∷ []) t) (refusal_of k)
@@ -153,25 +137,8 @@ module _ {text : List ℕ} {from : ℕ} {x : Expected} {t : Totals} where
       }
 
   module _ {w y : Stack} {b : List ℕ} {k : Token} {r : Refusal} (f : FirstToken text from k) where
-    pub refused : r ≡ refusal_of k → Misses text t x k → Answers text (spot from (x ∷ w) t) y b (Refused r)
+    pub refused : r ≡ refusal_of k → Misses text t x k → Answers text (spot from (x ∷ w) t) y b (Err r)
     refused right h = record { right = rw right (under_stops w (missed k f h)) }
 
-    pub refuses : OneOf (sorts_left t x k) (tag_of token-type.the_type k)
-        → r ≡ refusal_of k
-        → Answers text (spot from (x ∷ w) t) y b (Refused r)
-    refuses e right = refused right (missed_sort text x t k e)
-
-  module _ {w y : Stack} {b : List ℕ} {k : Token} {r : Refusal} {p q : ℕ} (f : FirstToken text from k) where
-    pub refuses_sign : {s : Sign}
-        → k ≡ Token.Sign p q s
-        → OneOf (values_left sign-type.enum (misses_sign t x p)) (tag_of sign-type.the_type s)
-        → r ≡ record { reason = Reason.Misplaced; place = p }
-        → Answers text (spot from (x ∷ w) t) y b (Refused r)
-    refuses_sign {s} e h right = refused (subst (λ (u : Token). FirstToken text from u) e f) right (missed_sign text x t p q s h)
-
-    pub refuses_word : {v : Word}
-        → k ≡ Token.Word p q v
-        → OneOf (values_left word-type.enum (misses_word t x p (part text p q))) (tag_of word-type.the_type v)
-        → r ≡ record { reason = Reason.Misplaced; place = p }
-        → Answers text (spot from (x ∷ w) t) y b (Refused r)
-    refuses_word {v} e h right = refused (subst (λ (u : Token). FirstToken text from u) e f) right (missed_word text x t p q v h)
+    pub refuses : ((p : ℕ) → T (untaken (choices t p x) (sort_in k))) → r ≡ refusal_of k → Answers text (spot from (x ∷ w) t) y b (Err r)
+    refuses h right = refused right (missed_sort text x t k h)

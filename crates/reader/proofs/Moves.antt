@@ -1,24 +1,25 @@
 -- What a reader has to show, step by step: each token that it takes is a move of the machine, and what it calls goes on from there.
-use Prim.Native.Nat.{ℕ, suc, ◌+◌, ◌≤◌, ◌<◌}
+use Prim.Native.Nat.{ℕ, suc, ◌+◌, ◌-◌, ◌*◌, ◌≤◌, ◌<◌}
 use native.Mathlib.Omega.{arith}
-use mathlib.Core.Path.{◌≡◌, refl, sym, ap, ◌∙◌, subst}
+use mathlib.Core.Path.{◌≡◌, refl, sym, ap, ◌∙◌, subst, subst₂}
 use mathlib.Core.Bool.{true, false}
+use mathlib.Core.Logic.{◌⊎◌, ⊎_elim}
 use mathlib.Core.Option.{none, some}
 use mathlib.Core.List.{List, [], ◌∷◌, ◌++◌, append_assoc}
+use Rattle.std.specs.Prelude.{Result, Ok, Err}
 use lib.ListN.{length, drop}
 use Rattle.text.specs.Tokens.{Placed, ◌at◌, Ending, Tokens}
 use Rattle.text.specs.Inside.Scan.{scan_from}
 use Rattle.text.proofs.Tokens.{scan_from_right, tokens_once}
 use Rattle.rule.specs.Inside.Class.{Class}
-use Rattle.rule.specs.Inside.Machine.{Expected, Stack, Value, Totals, Move, choices, pick, move, refused}
+use Rattle.rule.specs.Inside.Machine.{Expected, Stack, Value, Totals, Move, choices, pick, move, start, refused}
 use Rattle.rule.proofs.Machine.Steps.{run_stops, run_breaks, run_passes}
 use Rattle.table.specs.Refusal.{number_of}
 use Rattle.table.specs.declared.reason.Reason.{Reason}
-use Rattle.reader.specs.Inside.Answers.{Front, Spot, spot, totals, ComesTo, Stops, Ready, Answers, Past, Eats}
+use Rattle.reader.specs.Inside.Answers.{Front, Starts, Moved, Counted, Spot, spot, totals, before, ComesTo, Stops, Arrives, Answers, Past, Eats}
 use Rattle.reader.specs.declared.answers.Counts.{Counts}
+use Rattle.reader.specs.declared.answers.Reader.{Reader}
 use Rattle.table.specs.declared.reason.Refusal.{Refusal}
-use Rattle.reader.specs.declared.answers.Read.{Read}
-use Rattle.reader.specs.declared.answers.Read.TheVariants.{Went, Refused}
 
 -- the tokens from any byte of a text on
 tokens_there : (text : List ℕ) (from : ℕ) → (ts : List Placed) × (e : Ending) × Tokens from (drop from text) ts e
@@ -70,7 +71,7 @@ module _ {text : List ℕ} where
         }
 
   -- more is expected behind
-  under : {s z : Spot} (w : Stack)
+  pub under : {s z : Spot} (w : Stack)
       → ComesTo text s z
       → ComesTo text (spot s.from (s.expects ++ w) s.totals) (spot z.from (z.expects ++ w) z.totals)
   under {s} {z} w h =
@@ -131,7 +132,7 @@ module _ {text : List ℕ} where
       }
 
   -- a token taken
-  pub moves : {from p q : ℕ} {k : Class} {x : Expected} {t : Totals} {m : Move (Value x)} {w : Stack} {n : Totals}
+  moves : {from p q : ℕ} {k : Class} {x : Expected} {t : Totals} {m : Move (Value x)} {w : Stack} {n : Totals}
       → Front text from k p q
       → pick (choices t p x) k ≡ some m
       → m.breaks ≡ false
@@ -140,66 +141,58 @@ module _ {text : List ℕ} where
   moves {from} {q = q} {x = x} {t = t} {m = m} {w = w} f h l e =
       subst (λ (n : Totals). ComesTo text (spot from (x ∷ w) t) (spot q (m.push ++ w) n)) e (under w (goes x t f h l))
 
-  -- what was called has read something
-  pub went : {from q : ℕ} {x z : Stack} {t : Totals} {a : List ℕ} {u : Read} {n : Counts} (w : Stack)
+  -- from a reader where the machine has come
+  comes_on : {s y : Spot} {r : Reader} {x : Stack} {a : List ℕ} → Arrives text s x a r → ComesTo r.text.now (before r x a) y → ComesTo text s y
+  comes_on {y = y} {r = r} {x = x} {a = a} g h = comes_then g.comes (subst (λ (l : List ℕ). ComesTo l (before r x a) y) g.same h)
+
+  pub arrives_on : {s : Spot} {r z : Reader} {x y : Stack} {a b : List ℕ} → Arrives text s x a r → Arrives r.text.now (before r x a) y b z → Arrives text s y b z
+  arrives_on g h = record { comes = comes_on g h.comes; same = h.same ∙ g.same }
+
+  pub stops_on : {s : Spot} {r : Reader} {x : Stack} {a : List ℕ} {f : Refusal} → Arrives text s x a r → Stops r.text.now (before r x a) f → Stops text s f
+  stops_on {r = r} {x = x} {a = a} {f = f} g h = comes_stops g.comes (subst (λ (l : List ℕ). Stops l (before r x a) f) g.same h)
+
+  -- what is answered by a reader where the machine has come is answered
+  pub onward : {s : Spot} {r : Reader} {x y : Stack} {a b : List ℕ} {u : Result Reader Refusal}
+      → Arrives text s x a r
+      → Answers r.text.now (before r x a) y b u
+      → Answers text s y b u
+  onward {u = Ok z} g h = record { right = arrives_on g h.right }
+  onward {u = Err f} g h = record { right = stops_on g h.right }
+
+  -- what was called has read something, and more is expected behind
+  pub went : {from : ℕ} {x z : Stack} {t : Totals} {a : List ℕ} {u : Result Reader Refusal} {r : Reader} (w : Stack)
       → Answers text (spot from x t) z a u
-      → u ≡ Went q n
-      → ComesTo text (spot from (x ++ w) t) (spot q (z ++ w) (totals a n))
+      → u ≡ Ok r
+      → Arrives text (spot from (x ++ w) t) (z ++ w) a r
   went {from} {x = x} {z = z} {t = t} {a = a} w h e =
-      under w (subst (λ (v : Read). Answers text (spot from x t) z a v) e h).right.comes
+      let here = (subst (λ (v : Result Reader Refusal). Answers text (spot from x t) z a v) e h).right in
+      record { comes = under w here.comes; same = here.same }
 
-  -- and there is room there
-  pub went_ready : {s : Spot} {z : Stack} {a : List ℕ} {u : Read} {q : ℕ} {n : Counts} → Answers text s z a u → u ≡ Went q n → Ready text q n
-  went_ready {s} {z} {a} h e = (subst (λ (v : Read). Answers text s z a v) e h).right.ready
+  pub went_forth : {s : Spot} {z : Stack} {a : List ℕ} {u : Result Reader Refusal} {r : Reader} → Answers text s z a u → u ≡ Ok r → s.from ≤ r.at
+  went_forth {s} {z} {a} h e = (subst (λ (v : Result Reader Refusal). Answers text s z a v) e h).right.comes.forth
 
-  pub went_forth : {s : Spot} {z : Stack} {a : List ℕ} {u : Read} {q : ℕ} {n : Counts} → Answers text s z a u → u ≡ Went q n → s.from ≤ q
-  went_forth {s} {z} {a} h e = (subst (λ (v : Read). Answers text s z a v) e h).right.comes.forth
+  pub went_same : {s : Spot} {z : Stack} {a : List ℕ} {u : Result Reader Refusal} {r : Reader} → Answers text s z a u → u ≡ Ok r → r.text.now ≡ text
+  went_same {s} {z} {a} h e = (subst (λ (v : Result Reader Refusal). Answers text s z a v) e h).right.same
+
+  pub arrived : {s : Spot} {z : Stack} {a : List ℕ} {r : Reader} → Arrives text s z a r → Answers text s z a (Ok r)
+  arrived h = record { right = h }
 
   module _ {y : Stack} {b : List ℕ} where
-    -- what is answered from a spot is answered from where the machine comes to it
-    pub onward : {s z : Spot} {r : Read} → ComesTo text s z → Answers text z y b r → Answers text s y b r
-    onward {r = Went q n} g h =
-        record { right = record { comes = comes_then g h.right.comes; ready = h.right.ready } }
-    onward {r = Refused r} g h = record { right = comes_stops g h.right }
-
-    -- nothing more to read
-    pub done : {from : ℕ} {n : Counts} → Ready text from n → Answers text (spot from y (totals b n)) y b (Went from n)
-    done h = record { right = record { comes = stand _; ready = h } }
-
-    -- a token taken, and the rest
-    pub step : {from p q : ℕ} {k : Class} {x : Expected} {t : Totals} {m : Move (Value x)} {w : Stack} {n : Totals} {r : Read}
-        → Front text from k p q
-        → pick (choices t p x) k ≡ some m
-        → m.breaks ≡ false
-        → m.totals ≡ n
-        → Answers text (spot q (m.push ++ w) n) y b r
-        → Answers text (spot from (x ∷ w) t) y b r
-    step f h l e g = onward (moves f h l e) g
-
     -- what was called has read something, and the rest
-    pub then : {from q : ℕ} {x z : Stack} {t : Totals} {a : List ℕ} {r u : Read} {n : Counts} (w : Stack)
+    pub then : {from : ℕ} {x z : Stack} {t : Totals} {a : List ℕ} {u v : Result Reader Refusal} {r : Reader} (w : Stack)
         → Answers text (spot from x t) z a u
-        → u ≡ Went q n
-        → Answers text (spot q (z ++ w) (totals a n)) y b r
-        → Answers text (spot from (x ++ w) t) y b r
+        → u ≡ Ok r
+        → Answers r.text.now (spot r.at (z ++ w) (totals a r.counts)) y b v
+        → Answers text (spot from (x ++ w) t) y b v
     then w h e g = onward (went w h e) g
 
     -- what was called has refused, and so does the caller
-    pub stop : {from : ℕ} {x z : Stack} {t : Totals} {a : List ℕ} {u : Read} {r : Refusal} (w : Stack)
+    pub stop : {from : ℕ} {x z : Stack} {t : Totals} {a : List ℕ} {u : Result Reader Refusal} {f : Refusal} (w : Stack)
         → Answers text (spot from x t) z a u
-        → u ≡ Refused r
-        → Answers text (spot from (x ++ w) t) y b u
+        → u ≡ Err f
+        → Answers text (spot from (x ++ w) t) y b (Err f)
     stop {from} {x = x} {z = z} {t = t} {a = a} w h e =
-        let stopped = (subst (λ (v : Read). Answers text (spot from x t) z a v) e h).right in
-        subst (λ (v : Read). Answers text (spot from (x ++ w) t) y b v) (sym e) (record { right = under_stops w stopped })
-
-    -- what was called has read something, and there the machine may go on
-    pub stay : {from q : ℕ} {x z : Stack} {t : Totals} {u : Read} {n : Counts} (w : Stack)
-        → Answers text (spot from x t) z b u
-        → u ≡ Went q n
-        → ComesTo text (spot q (z ++ w) (totals b n)) (spot q y (totals b n))
-        → Answers text (spot from (x ++ w) t) y b (Went q n)
-    stay w h e g = then w h e (onward g (done (went_ready h e)))
+        record { right = under_stops w (subst (λ (v : Result Reader Refusal). Answers text (spot from x t) z a v) e h).right }
 
     -- a limit is broken
     pub break : {from p q : ℕ} {k : Class} {x : Expected} {t : Totals} {m : Move (Value x)} {w : Stack} {why : Reason}
@@ -207,65 +200,124 @@ module _ {text : List ℕ} where
         → pick (choices t p x) k ≡ some m
         → m.breaks ≡ true
         → m.fault ≡ number_of why
-        → Answers text (spot from (x ∷ w) t) y b (Refused (record { reason = why; place = p }))
+        → Answers text (spot from (x ∷ w) t) y b (Err (record { reason = why; place = p }))
     break {x = x} {t = t} {w = w} f h l n = record { right = under_stops w (breaks x t f h l n) }
 
   -- more is expected behind
-  pub over : {from : ℕ} {x z : Stack} {t : Totals} {a : List ℕ} {r : Read} (w : Stack)
-      → Answers text (spot from x t) z a r
-      → Answers text (spot from (x ++ w) t) (z ++ w) a r
-  over {r = Went q n} w h = record { right = record { comes = under w h.right.comes; ready = h.right.ready } }
-  over {r = Refused r} w h = record { right = under_stops w h.right }
+  pub over : {from : ℕ} {x z : Stack} {t : Totals} {a : List ℕ} {u : Result Reader Refusal} (w : Stack)
+      → Answers text (spot from x t) z a u
+      → Answers text (spot from (x ++ w) t) (z ++ w) a u
+  over {u = Ok r} w h = record { right = record { comes = under w h.right.comes; same = h.right.same } }
+  over {u = Err f} w h = record { right = under_stops w h.right }
 
-  answers_past : {s : Spot} {x : Stack} {a : List ℕ} {from : ℕ} (r : Read) → from < s.from → Answers text s x a r → Past from r
-  answers_past (Went q n) h g = omega (arith, g.right.comes.forth)
-  answers_past (Refused r) h g = tt
+-- nothing more to read
+pub here : (r : Reader) (x : Stack) (a : List ℕ) → Arrives r.text.now (before r x a) x a r
+here r x a = record { comes = stand (before r x a); same = refl }
 
-  -- a token taken, and the rest: that is past it
-  pub eats : {y : Stack} {b : List ℕ} {from p q : ℕ} {k : Class} {x : Expected} {t : Totals} {m : Move (Value x)} {w : Stack} {n : Totals} {r : Read}
-      → Front text from k p q
-      → pick (choices t p x) k ≡ some m
+-- where nothing is taken, the machine goes on
+pub peeked : {r : Reader} {x y : Stack} {a : List ℕ} → ComesTo r.text.now (before r x a) (before r y a) → Arrives r.text.now (before r x a) y a r
+peeked h = record { comes = h; same = refl }
+
+-- a token taken; the place may have its part in the move
+module _ {r z : Reader} {k : Class} {x : Expected} {a b : List ℕ} (h : Moved r k z) where
+  pub took_with : {m : Move (Value x)} (w : Stack)
+      → pick (choices (totals a r.counts) h.place x) k ≡ some m
       → m.breaks ≡ false
-      → m.totals ≡ n
-      → Answers text (spot q (m.push ++ w) n) y b r
-      → Eats text (spot from (x ∷ w) t) y b r
-  eats {r = r} f h l e g = record { answers = step f h l e g; past = answers_past r (omega (arith, f.back, f.some)) g }
+      → m.totals ≡ totals b r.counts
+      → Arrives r.text.now (before r (x ∷ w) a) (m.push ++ w) b z
+  took_with {m} w picked free counts =
+      record { comes = moves h.front picked free (counts ∙ ap (totals b) (sym h.counts_are)); same = h.same }
 
-  pub past_went : {s : Spot} {x : Stack} {a : List ℕ} {u : Read} {q : ℕ} {n : Counts} → Eats text s x a u → u ≡ Went q n → s.from < q
-  past_went {s} h e = subst (Past s.from) e h.past
+  -- and counted
+  pub took_counted : {m : Move (Value x)} {i j : ℕ} {c : Reader} (w : Stack)
+      → Counted z i j c
+      → pick (choices (totals a r.counts) h.place x) k ≡ some m
+      → m.breaks ≡ false
+      → m.totals ≡ totals b (record { states = r.counts.states + i; rows = r.counts.rows + j })
+      → Arrives r.text.now (before r (x ∷ w) a) (m.push ++ w) b c
+  took_counted {m} {i} {j} {c} w more picked free counts =
+      let counts_are : record { states = r.counts.states + i; rows = r.counts.rows + j } ≡ c.counts =
+      ap (λ (n : Counts). record { states = n.states + i; rows = n.rows + j }) (sym h.counts_are) ∙ sym more.counts_are
+      in
+      record {
+        comes =
+            subst
+            (λ (q : ℕ). ComesTo r.text.now (before r (x ∷ w) a) (spot q (m.push ++ w) (totals b c.counts)))
+            (sym more.at_is)
+            (moves h.front picked free (counts ∙ ap (totals b) counts_are));
+        same = more.same ∙ h.same;
+      }
 
 -- behind a token there is room for what it counts
-pub ready_more : {text : List ℕ} {from p q : ℕ} {k : Class} {n l : Counts}
-    → Front text from k p q
-    → Ready text from n
-    → l.states ≤ n.states + 3
-    → l.rows ≤ n.rows + 18
-    → Ready text q l
-ready_more f h s r =
-    record {
-      short = h.short;
-      inside = f.within;
-      states = omega (arith, f.back, f.some, h.states);
-      rows = omega (arith, f.back, f.some, h.rows);
-    }
+pub room : {r z : Reader} {k : Class} {i j : ℕ} → Moved r k z → i ≤ 3 → j ≤ 18 → (z.counts.states + i ≤ 3 * z.at + 1) × (z.counts.rows + j ≤ 18 * z.at)
+room {r} {z} h few_states few_rows =
+    let states = ap (λ (n : Counts). n.states) h.counts_are in
+    let rows = ap (λ (n : Counts). n.rows) h.counts_are in (
+      omega (arith, h.front.back, h.front.some, states, r.few_states),
+      omega (arith, h.front.back, h.front.some, rows, r.few_rows),
+    )
 
-pub ready_plus : {text : List ℕ} {from p q : ℕ} {k : Class} {n l : Counts} {i j : ℕ}
-    → Front text from k p q
-    → Ready text from n
-    → l ≡ record { states = n.states + i; rows = n.rows + j }
-    → i ≤ 3
-    → j ≤ 18
-    → Ready text q l
-ready_plus f h e s r =
-    ready_more f h (omega (arith, ap (λ (l : Counts). l.states) e)) (omega (arith, ap (λ (l : Counts). l.rows) e))
+-- and it is further on
+pub further : {r z : Reader} {k : Class} → Moved r k z → r.at < z.at
+further h = omega (arith, h.front.back, h.front.some)
 
-pub ready_on : {text : List ℕ} {from p q : ℕ} {k : Class} {n : Counts} → Front text from k p q → Ready text from n → Ready text q n
-ready_on f h = ready_more f h (omega arith) (omega arith)
-
--- totals with what a move counts
-pub counts_plus : {l k : Counts} (a : List ℕ) → l ≡ k → totals a k ≡ totals a l
-counts_plus a e = ap (totals a) (sym e)
+pub nearer : {r z : Reader} {k : Class} → Moved r k z → length z.text.now - z.at < length r.text.now - r.at
+nearer h = omega (arith, h.front.back, h.front.some, h.front.within, ap (length {A = ℕ}) h.same)
 
 -- at a text's first byte there is state 0
-pub ready_start : {text : List ℕ} → length text ≤ 4096 → Ready text 0 (record { states = 1; rows = 0 })
-ready_start h = record { short = h; inside = omega arith; states = omega arith; rows = omega arith }
+pub started : {text : List ℕ} {r : Reader} (x : Stack) → Starts text r → Arrives text (spot 0 x start) x [] r
+started {text} x h =
+    record {
+      comes = subst₂ (λ (q : ℕ) (n : Counts). ComesTo text (spot 0 x start) (spot q x (totals [] n))) (sym h.at_is) (sym h.counts_are) (stand (spot 0 x start));
+      same = h.same;
+    }
+
+-- what counts stays where it is
+pub counted_nearer : {r z c : Reader} {k : Class} {i j : ℕ} → Moved r k z → Counted z i j c → length c.text.now - c.at < length r.text.now - r.at
+counted_nearer h more = omega (arith, nearer h, more.at_is, ap (length {A = ℕ}) more.same)
+
+-- the same of one of two tokens
+module _ {r z : Reader} {k l : Class} (one : Moved r k z ⊎ Moved r l z) where
+  pub either_room : {i j : ℕ} → i ≤ 3 → j ≤ 18 → (z.counts.states + i ≤ 3 * z.at + 1) × (z.counts.rows + j ≤ 18 * z.at)
+  either_room few_states few_rows = ⊎_elim (λ h. room h few_states few_rows) (λ h. room h few_states few_rows) one
+
+  pub either_nearer : {i j : ℕ} {c : Reader} → Counted z i j c → length c.text.now - c.at < length r.text.now - r.at
+  either_nearer more = ⊎_elim (λ h. counted_nearer h more) (λ h. counted_nearer h more) one
+
+-- what is read lies ahead
+pub went_no_nearer : (r : Reader) {z : Reader} {x y : Stack} {a b : List ℕ} {u : Result Reader Refusal}
+    → Answers r.text.now (before r x a) y b u
+    → u ≡ Ok z
+    → length z.text.now - z.at ≤ length r.text.now - r.at
+went_no_nearer r h e = omega (arith, went_forth h e, ap (length {A = ℕ}) (went_same h e))
+
+past_lem : (r z : Reader) {x y : Stack} {a b : List ℕ} (u : Result Reader Refusal) → r.at < z.at → Answers z.text.now (before z x a) y b u → Past r.at u
+past_lem r z (Ok y) h g = omega (arith, g.right.comes.forth)
+past_lem r z (Err f) h g = tt
+
+-- a token taken and the rest: that is past it
+module _ {r z : Reader} {k : Class} {x : Expected} {w y : Stack} {a : List ℕ} {u : Result Reader Refusal} (h : Moved r k z) where
+  pub eats : {m : Move (Value x)}
+      → pick (choices (totals a r.counts) h.place x) k ≡ some m
+      → m.breaks ≡ false
+      → m.totals ≡ totals a r.counts
+      → Answers z.text.now (before z (m.push ++ w) a) y a u
+      → Eats r (x ∷ w) y a u
+  eats picked free counts g = record { answers = onward (took_with h w picked free counts) g; past = past_lem r z u (further h) g }
+
+  pub eats_counted : {m : Move (Value x)} {i j : ℕ} {c : Reader}
+      → Counted z i j c
+      → pick (choices (totals a r.counts) h.place x) k ≡ some m
+      → m.breaks ≡ false
+      → m.totals ≡ totals a (record { states = r.counts.states + i; rows = r.counts.rows + j })
+      → Answers c.text.now (before c (m.push ++ w) a) y a u
+      → Eats r (x ∷ w) y a u
+  eats_counted {c = c} more picked free counts g =
+      record {
+        answers = onward (took_counted h w more picked free counts) g;
+        past = past_lem r c u (omega (arith, further h, more.at_is)) g;
+      }
+
+-- a token ends ahead, and in the text
+pub ahead : {text : List ℕ} {from p q : ℕ} {k : Class} → Front text from k p q → (from ≤ q) × (q ≤ length text)
+ahead f = (omega (arith, f.back, f.some), f.within)

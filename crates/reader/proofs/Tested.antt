@@ -1,24 +1,19 @@
 -- The atoms of a condition: each token of one is a move of the machine, and together they are derived.
-use Prim.Native.Nat.{ℕ, ◌+◌, ◌≤◌}
+use Prim.Native.Nat.{ℕ, ◌+◌, ◌≤◌, ◌<◌}
 use native.Mathlib.Omega.{arith}
 use mathlib.Core.Path.{◌≡◌, refl, sym, ap, ◌∙◌, subst}
-use mathlib.Core.Bool.{Bool, true, false, not, true≢false}
+use mathlib.Core.Bool.{Bool, true, false, not}
 use mathlib.Core.Option.{some}
 use mathlib.Core.List.{List, [], ◌∷◌}
-use Rattle.std.specs.Prelude.{Ok, Err}
+use Rattle.std.specs.Prelude.{Option, Some, None, Ok, Err}
 use lib.ListN.{length}
-use denote.Enum.Declared.{tag_of}
-use types.Run.{OneOf, hit, miss}
+use lib.Dec.{T}
 use Rattle.text.specs.Token as Spelt
 use Rattle.text.specs.Token.{w}
 use Rattle.text.specs.Tokens.{◌at◌, Ending}
 use Rattle.text.specs.First.{FirstToken}
-use Rattle.text.specs.declared.Sign.{Sign}
 use Rattle.text.specs.declared.Token.{Token}
-use Rattle.text.specs.contracts.Sign as sign-type
-use Rattle.text.specs.contracts.Token as token-type
 use Rattle.text.proofs.Tokens.{tokens_once}
-use Rattle.text.proofs.Once.{first_once}
 use Rattle.rule.specs.Tree as Tree
 use Rattle.rule.specs.Tree.{Number}
 use Rattle.rule.specs.Grammar as Grammar
@@ -32,21 +27,17 @@ use Rattle.table.specs.Refusal.{number_of}
 use Rattle.table.specs.declared.reason.Reason.{Reason as Named}
 use Rattle.table.specs.declared.reason.Reason.TheVariants as Reason
 use Rattle.atoms.specs.Atom.{refusal_of}
-use Rattle.reader.specs.Inside.Answers.{Front, spot, totals, Stops, Ready, Answers}
-use Rattle.reader.specs.Inside.Atoms.{symbol_of, atom_of, rows_of, stray_of, Zeroed, compared, behind, is_sign, NoSign, Tests}
+use Rattle.reader.specs.Inside.Answers.{Front, Onward, Counted, spot, totals, before, ComesTo, Stops, Arrives, ReadsOn}
+use Rattle.reader.specs.Inside.Atoms.{symbol_of, atom_of, rows_of, stray_of, Zeroed, compared, behind, Tests}
 use Rattle.table.specs.declared.reason.Refusal.{Refusal}
 use Rattle.reader.specs.declared.answers.Counts.{Counts}
-use Rattle.reader.specs.declared.answers.Read.TheVariants as Read
-use Rattle.reader.specs.declared.answers.Read.TheVariants.{Went}
-use Rattle.atoms.specs.declared.Symbol.{Symbol as Sought}
-use Rattle.atoms.specs.contracts.Symbol as symbol-type
-use Rattle.reader.specs.declared.conditions.Stray.{Stray}
+use Rattle.reader.specs.declared.answers.Reader.{Reader}
+use Rattle.atoms.specs.declared.AtomRead.{AtomRead}
 use Rattle.atoms.specs.declared.Atom.{Atom}
 use Rattle.atoms.specs.Atom.{found}
 use Rattle.atoms.specs.Atom.{Read as AtomAnswer}
-use Rattle.reader.proofs.Moves.{goes, breaks, comes_stops, counts_plus}
-use Rattle.atoms.proofs.Arms.{values_left}
-use Rattle.reader.proofs.Missed.{Misses, missed, sorts_left, misses_sign, missed_sort, missed_sign}
+use Rattle.reader.proofs.Moves.{goes, breaks, comes_stops}
+use Rattle.reader.proofs.Missed.{Misses, missed, untaken, sort_in, missed_sort}
 
 -- a token by its class
 front_token : {text : List ℕ} {from p q : ℕ} {k : Class} (f : Front text from k p q) → f.token ≡ token_of k
@@ -63,19 +54,10 @@ module _ {text : List ℕ} {from : ℕ} {lead : Ts → Ts} {x : Expected} where
 
   pub test_refuses : {k : Token} {r : Refusal}
       → FirstToken text from k
-      → ((t : Totals) → OneOf (sorts_left t x k) (tag_of token-type.the_type k))
+      → ((t : Totals) (p : ℕ) → T (untaken (choices t p x) (sort_in k)))
       → r ≡ refusal_of k
       → Tests text from lead x (Err r)
   test_refuses {k} f h right = test_missed f (λ t. missed_sort text x t k (h t)) right
-
-  pub test_refuses_sign : {k : Token} {r : Refusal} {p q : ℕ} {v : Sign}
-      → FirstToken text from k
-      → k ≡ Token.Sign p q v
-      → ((t : Totals) → OneOf (values_left sign-type.enum (misses_sign t x p)) (tag_of sign-type.the_type v))
-      → r ≡ record { reason = Reason.Misplaced; place = p }
-      → Tests text from lead x (Err r)
-  test_refuses_sign {p = p} {q = q} {v = v} f e h right =
-      test_missed (subst (λ (u : Token). FirstToken text from u) e f) (λ t. missed_sign text x t p q v (h t)) right
 
   module _ {p q : ℕ} {k : Class} (f : Front text from k p q) where
     -- a limit is broken
@@ -207,25 +189,6 @@ module _ {text : List ℕ} {from p q : ℕ} (equal : Bool) (o r : ℕ) where
       (counter_zeroed equal n (ap (λ (t : Bool). fault_if t 7 p) h))
       (counter_is_lem equal n)
 
--- no sign and no word is left
-pub nor_sign : {text : List ℕ} {from : ℕ} {k : Token}
-    → NoSign text from
-    → FirstToken text from k
-    → OneOf (1 ∷ 2 ∷ 3 ∷ 4 ∷ 5 ∷ []) (tag_of token-type.the_type k)
-    → OneOf (1 ∷ 2 ∷ 4 ∷ 5 ∷ []) (tag_of token-type.the_type k)
-nor_sign {k = k} h f e = by_cases k (ap is_sign (first_once f h.first) ∙ h.none) e
-  where
-    by_cases : (k : Token)
-        → is_sign k ≡ false
-        → OneOf (1 ∷ 2 ∷ 3 ∷ 4 ∷ 5 ∷ []) (tag_of token-type.the_type k)
-        → OneOf (1 ∷ 2 ∷ 4 ∷ 5 ∷ []) (tag_of token-type.the_type k)
-    by_cases (Token.Word p q x) h e = absurd (miss (1 ∷ 2 ∷ 3 ∷ 4 ∷ 5 ∷ []) 0 tt e)
-    by_cases (Token.Number p q) h e = hit (1 ∷ 2 ∷ 4 ∷ 5 ∷ []) 1 tt
-    by_cases (Token.Letter p q b) h e = hit (1 ∷ 2 ∷ 4 ∷ 5 ∷ []) 2 tt
-    by_cases (Token.Sign p q x) h e = absurd (true≢false h)
-    by_cases (Token.End p) h e = hit (1 ∷ 2 ∷ 4 ∷ 5 ∷ []) 4 tt
-    by_cases (Token.Broken p) h e = hit (1 ∷ 2 ∷ 4 ∷ 5 ∷ []) 5 tt
-
 module _ (t : Totals) (st : Stack) (e : Ending) where
   sought_runs : {ts us : Ts} {x : Tree.SymbolName}
       → IsSymbolName ts x us
@@ -257,48 +220,28 @@ atom_runs n t st e (Grammar.read_is_not h) g = sought_runs (counted 0 (length t.
 atom_runs n t st e (Grammar.counter_is {r = r} {n = l} {ts = ts}) g = zero_runs (counted 0 2 t) st e l r ts g
 atom_runs n t st e (Grammar.counter_is_not {r = r} {n = l} {ts = ts}) g = zero_runs (counted 0 2 t) st e l r ts g
 
-abbrev strays : Stray → ℕ
-strays Stray.Nowhere = 0
-strays (Stray.At p) = 1
-
-abbrev stray_place : Stray → ℕ
-stray_place Stray.Nowhere = 0
-stray_place (Stray.At p) = p
-
 -- of an atom that is found, a letter outside the alphabet is the only fault left
-not_stray : (b p : ℕ) (a : List ℕ) → elim (is_in b a) [ true ↦ Stray.Nowhere | false ↦ Stray.At p ] ≡ Stray.Nowhere → is_in b a ≡ true
+not_stray : (b p : ℕ) (a : List ℕ) → ◌≡◌ {A = Option ℕ} (elim (is_in b a) [ true ↦ None | false ↦ Some p ]) None → is_in b a ≡ true
 not_stray b p a e = by_cases (is_in b a) e
   where
-    by_cases : (t : Bool) → elim t [ true ↦ Stray.Nowhere | false ↦ Stray.At p ] ≡ Stray.Nowhere → t ≡ true
+    by_cases : (t : Bool) → ◌≡◌ {A = Option ℕ} (elim t [ true ↦ None | false ↦ Some p ]) None → t ≡ true
     by_cases true h = refl
-    by_cases false h = absurd (let no : ◌≡◌ {A = ℕ} 1 0 = ap strays h in omega arith)
+    by_cases false h = absurd cc
 
-is_stray : (b p q : ℕ) (a : List ℕ) → elim (is_in b a) [ true ↦ Stray.Nowhere | false ↦ Stray.At p ] ≡ Stray.At q → (is_in b a ≡ false) × (p ≡ q)
+is_stray : (b p q : ℕ) (a : List ℕ) → ◌≡◌ {A = Option ℕ} (elim (is_in b a) [ true ↦ None | false ↦ Some p ]) (Some q) → (is_in b a ≡ false) × (p ≡ q)
 is_stray b p q a e = by_cases (is_in b a) e
   where
-    by_cases : (t : Bool) → elim t [ true ↦ Stray.Nowhere | false ↦ Stray.At p ] ≡ Stray.At q → (t ≡ false) × (p ≡ q)
-    by_cases true h = absurd (let no : ◌≡◌ {A = ℕ} 0 1 = ap strays h in omega arith)
-    by_cases false h = (refl, ap stray_place h)
+    by_cases : (t : Bool) → ◌≡◌ {A = Option ℕ} (elim t [ true ↦ None | false ↦ Some p ]) (Some q) → (t ≡ false) × (p ≡ q)
+    by_cases true h = absurd cc
+    by_cases false h = (refl, cc)
 
--- a mark is no letter, and a letter of the alphabet is not outside it
-pub mark_strays : (a : List ℕ) (equal : Bool) (x : Sought) → OneOf (1 ∷ 2 ∷ []) (tag_of symbol-type.the_type x) → Stray.Nowhere ≡ stray_of a (Atom.Read equal x)
-mark_strays a equal (Sought.Letter b p) h = absurd (miss (1 ∷ 2 ∷ []) 0 tt h)
-mark_strays a equal Sought.Lend h = refl
-mark_strays a equal Sought.Rend h = refl
-
-pub letter_strays : (a : List ℕ) (equal : Bool) (b p : ℕ) (t : Bool) → is_in b a ≡ t → elim t [ true ↦ Stray.Nowhere | false ↦ Stray.At p ] ≡ stray_of a (Atom.Read equal (Sought.Letter b p))
-letter_strays a equal b p t e = ap (λ (u : Bool). elim u [ true ↦ Stray.Nowhere | false ↦ Stray.At p ]) (sym e)
-
-no_stray : {A : Type 0} (p : ℕ) → Stray.Nowhere ≡ Stray.At p → A
-no_stray p h = absurd (let no : ◌≡◌ {A = ℕ} 0 1 = ap strays h in omega arith)
-
-sought_clean : (a : List ℕ) (equal : Bool) (x : Tree.SymbolName) → stray_of a (Atom.Read equal (symbol_of x)) ≡ Stray.Nowhere → symbol_name_faults a x ≡ []
+sought_clean : (a : List ℕ) (equal : Bool) (x : Tree.SymbolName) → stray_of a (Atom.Read equal (symbol_of x)) ≡ None → symbol_name_faults a x ≡ []
 unfolding symbol_name_faults fault_if
 sought_clean a equal (Tree.letter l) e = ap (λ (t : Bool). fault_if (not t) 6 l.place) (not_stray l.byte l.place a e)
 sought_clean a equal Tree.lend e = refl
 sought_clean a equal Tree.rend e = refl
 
-atom_clean : (a : List ℕ) (x : Tree.Atom) → Zeroed x → stray_of a (atom_of x) ≡ Stray.Nowhere → atom_faults a x ≡ []
+atom_clean : (a : List ℕ) (x : Tree.Atom) → Zeroed x → stray_of a (atom_of x) ≡ None → atom_faults a x ≡ []
 unfolding atom_faults
 atom_clean a (Tree.read_is x) z e = sought_clean a true x e
 atom_clean a (Tree.read_is_not x) z e = sought_clean a false x e
@@ -308,81 +251,87 @@ atom_clean a (Tree.counter_is_not n) z e = z
 -- such a letter is refused with its place
 sought_stops : (t : Totals) (st : Stack) (e : Ending) (equal : Bool) (q : ℕ) {ts us : Ts} {x : Tree.SymbolName}
     → IsSymbolName ts x us
-    → stray_of t.alphabet (Atom.Read equal (symbol_of x)) ≡ Stray.At q
+    → stray_of t.alphabet (Atom.Read equal (symbol_of x)) ≡ Some q
     → run (symbol_name ∷ st) t ts e ≡ refused 6 q
 unfolding run move
 sought_stops t st e equal q (Grammar.a_letter {p = p} {b = b}) h =
     let out = is_stray b p q t.alphabet h in
     rw (out.0, run) (ap (refused 6) out.1)
-sought_stops t st e equal q Grammar.lend h = no_stray q h
-sought_stops t st e equal q Grammar.rend h = no_stray q h
+sought_stops t st e equal q Grammar.lend h = absurd cc
+sought_stops t st e equal q Grammar.rend h = absurd cc
 
 atom_stops : (n : ℕ) (t : Totals) (st : Stack) (e : Ending) (q : ℕ) {p : ℕ} {ts us : Ts} {x : Tree.Atom}
     → IsAtom ts p x us
-    → stray_of t.alphabet (atom_of x) ≡ Stray.At q
+    → stray_of t.alphabet (atom_of x) ≡ Some q
     → run (operand n ∷ st) t ts e ≡ refused 6 q
 unfolding run move
 atom_stops n t st e q (Grammar.read_is h) g = sought_stops (counted 0 (length t.alphabet + 2) t) st e true q h g
 atom_stops n t st e q (Grammar.read_is_not h) g = sought_stops (counted 0 (length t.alphabet + 2) t) st e false q h g
-atom_stops n t st e q Grammar.counter_is g = no_stray q g
-atom_stops n t st e q Grammar.counter_is_not g = no_stray q g
+atom_stops n t st e q Grammar.counter_is g = absurd cc
+atom_stops n t st e q Grammar.counter_is_not g = absurd cc
 
-module _ {text : List ℕ} {from n : ℕ} {a : List ℕ} {r : AtomAnswer} {counts : Counts} (h : Tests text from (λ ts. ts) (operand n) r) where
+-- an atom that is found ends in the text, and behind where it begins
+pub found_behind : {text : List ℕ} {from n : ℕ} {r : AtomAnswer} {read : AtomRead}
+    → Tests text from (λ ts. ts) (operand n) r
+    → r ≡ Ok read
+    → (from < read.at) × (read.at ≤ length text)
+found_behind {text} {from} {n} h e =
+    let i = (subst (λ (u : AtomAnswer). Tests text from (λ ts. ts) (operand n) u) e h).right in
+    (i.forth, i.inside)
+
+module _ (r : Reader) {n : ℕ} {a : List ℕ} {u : AtomAnswer} (h : Tests r.text.now r.at (λ ts. ts) (operand n) u) where
   -- an operand that is an atom
-  pub atom_answers : {atom : Atom} {to : ℕ} {l : Counts} {rows : ℕ}
-      → r ≡ found atom to
-      → stray_of a atom ≡ Stray.Nowhere
-      → Ready text from counts
-      → length a ≤ 16
-      → rows ≡ rows_of (length a) atom
-      → l ≡ record { states = counts.states + 0; rows = counts.rows + rows }
-      → Answers text (spot from (operand n ∷ []) (totals a counts)) [] a (Went to l)
-  atom_answers {atom} {to} {l} {rows} e stays ready few rows_are more =
-      let i = (subst (λ (u : AtomAnswer). Tests text from (λ ts. ts) (operand n) u) e h).right in
-      let same : counted 0 (rows_of (length a) (atom_of i.tree)) (totals a counts) ≡ totals a l =
-      ap (λ (k : ℕ). counted 0 k (totals a counts)) (sym (rows_are ∙ ap (rows_of (length a)) i.is)) ∙ counts_plus a more
+  pub atom_answers : {read : AtomRead} {y z : Reader} {rows : ℕ}
+      → u ≡ Ok read
+      → stray_of a read.atom ≡ None
+      → rows ≡ rows_of (length a) read.atom
+      → Onward r read.at y
+      → Counted y 0 rows z
+      → Arrives r.text.now (before r (operand n ∷ []) a) [] a z
+  atom_answers {read} {y} {z} {rows} e stays rows_are on more =
+      let i = (subst (λ (u : AtomAnswer). Tests r.text.now r.at (λ ts. ts) (operand n) u) e h).right in
+      let rows_so : rows ≡ rows_of (length a) (atom_of i.tree) = rows_are ∙ ap (rows_of (length a)) i.is in
+      let counts : z.counts ≡ record { states = r.counts.states + 0; rows = r.counts.rows + rows } =
+      more.counts_are ∙ ap (λ (c : Counts). record { states = c.states + 0; rows = c.rows + rows }) on.counts_are
       in
-      let most = rows_most (length a) atom in
+      let same : counted 0 (rows_of (length a) (atom_of i.tree)) (totals a r.counts) ≡ totals a z.counts =
+      ap (λ (k : ℕ). counted 0 k (totals a r.counts)) (sym rows_so) ∙ ap (totals a) (sym counts)
+      in
+      let there : read.at ≡ z.at = sym (more.at_is ∙ on.at_is) in
       record {
-        right =
-            record {
-              comes =
-                  record {
-                    before = i.before;
-                    after = i.after;
-                    ending = i.ending;
-                    here = i.here;
-                    there = i.there;
-                    same = λ st. atom_runs n (totals a counts) st i.ending i.derived (atom_clean a i.tree i.zeroed (ap (stray_of a) (sym i.is) ∙ stays)) ∙ ap (λ (k : Totals). run st k i.after i.ending) same;
-                    forth = omega (arith, i.forth);
-                  };
-              ready =
-                  record {
-                    short = ready.short;
-                    inside = i.inside;
-                    states = omega (arith, ap (λ (k : Counts). k.states) more, i.forth, ready.states);
-                    rows = omega (arith, ap (λ (k : Counts). k.rows) more, i.forth, ready.rows);
-                  };
-            };
+        comes =
+            subst
+            (λ (q : ℕ). ComesTo r.text.now (before r (operand n ∷ []) a) (spot q [] (totals a z.counts)))
+            there
+            (record {
+              before = i.before;
+              after = i.after;
+              ending = i.ending;
+              here = i.here;
+              there = i.there;
+              same = λ st. atom_runs n (totals a r.counts) st i.ending i.derived (atom_clean a i.tree i.zeroed (ap (stray_of a) (sym i.is) ∙ stays)) ∙ ap (λ (k : Totals). run st k i.after i.ending) same;
+              forth = omega (arith, i.forth);
+            });
+        same = more.same ∙ on.same;
       }
 
   -- and one that is none
-  pub atom_refused : {f : Refusal} → r ≡ Err f → Answers text (spot from (operand n ∷ []) (totals a counts)) [] a (Read.Refused f)
-  atom_refused {f} e = record { right = (subst (λ (u : AtomAnswer). Tests text from (λ ts. ts) (operand n) u) e h).right (totals a counts) }
+  pub atom_refused : {f : Refusal} → u ≡ Err f → ReadsOn r (operand n ∷ []) [] a (Err f)
+  atom_refused {f} e = record { right = (subst (λ (u : AtomAnswer). Tests r.text.now r.at (λ ts. ts) (operand n) u) e h).right (totals a r.counts) }
 
   -- and one whose letter is outside the alphabet
-  pub atom_strays : {atom : Atom} {to q : ℕ}
-      → r ≡ found atom to
-      → stray_of a atom ≡ Stray.At q
-      → Answers text (spot from (operand n ∷ []) (totals a counts)) [] a (Read.Refused (record { reason = Reason.OutsideAlphabet; place = q }))
+  pub atom_strays : {read : AtomRead} {q : ℕ}
+      → u ≡ Ok read
+      → stray_of a read.atom ≡ Some q
+      → ReadsOn r (operand n ∷ []) [] a (Err (record { reason = Reason.OutsideAlphabet; place = q }))
   atom_strays {q = q} e out =
-      let i = (subst (λ (u : AtomAnswer). Tests text from (λ ts. ts) (operand n) u) e h).right in
+      let i = (subst (λ (u : AtomAnswer). Tests r.text.now r.at (λ ts. ts) (operand n) u) e h).right in
       record {
         right =
             record {
               before = i.before;
               ending = i.ending;
               here = i.here;
-              same = λ st. atom_stops n (totals a counts) st i.ending q i.derived (ap (stray_of a) (sym i.is) ∙ out);
+              same = λ st. atom_stops n (totals a r.counts) st i.ending q i.derived (ap (stray_of a) (sym i.is) ∙ out);
             };
       }

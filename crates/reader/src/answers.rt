@@ -1,59 +1,132 @@
-// What a reader answers: the byte after what it read and the counts so far, or a refusal.
-ghost use Rattle.std.specs.Prelude.{◌≡◌, List, [], ◌∷◌, ℕ, ◌+◌, ◌^◌, ◌<◌};
-ghost use Rattle.text.specs.Token as Spelt;
-ghost use Rattle.rule.specs.Inside.Class.{Fixed, spell};
-ghost use Rattle.rule.specs.Inside.Machine.{exact};
-ghost use Rattle.reader.specs.Inside.Answers.{totals, spot, Ready, Answers};
+// The reader: where it stands in a text, and how it goes on behind a token. Each method that reads answers the reader behind what it
+// read, or a refusal.
+ghost use Rattle.std.specs.Prelude.{◌≡◌, ℕ, ◌+◌, ◌*◌, ◌≤◌, length};
 
 use atoms::refuse;
-use table::reason::Refusal;
-use text::Token;
+use table::reason::{Reason, Refusal};
+use text::{Sign, Token, Word};
 use tokeniser::token_at;
 
 // The states and rows so far.
-#[derive(Clone, Copy)]
+#[derive(Clone, Copy, Debug, PartialEq, Eq)]
 pub struct Counts {
     pub states: usize,
     pub rows: usize,
 }
 
-impl Counts {
-    pub fn plus(self, states: usize, rows: usize) -> Counts
-        requires { (self.states + states < 2 ^ 64) × (self.rows + rows < 2 ^ 64) }
-        ensures { result ≡ record { states = self.states + states; rows = self.rows + rows } }
+// A place in a text, with what is counted before it. The text is short and each token counts little, so no count overflows.
+#[derive(Clone, Copy)]
+pub struct Reader<'a> {
+    pub text: &'a [u8],
+    pub at: usize,
+    pub counts: Counts,
+    ghost short: { length text.now ≤ 4096 },
+    ghost inside: { at ≤ length text.now },
+    ghost few_states: { counts.states ≤ 3 * at + 1 },
+    ghost few_rows: { counts.rows ≤ 18 * at },
+}
+
+impl<'a> Reader<'a> {
+    ghost use Rattle.std.specs.Prelude.{List};
+    ghost use Rattle.text.specs.Token as Spelt;
+    ghost use Rattle.text.specs.First.{reserved, name, written};
+    ghost use Rattle.rule.specs.Inside.Class.{Fixed, spell};
+    ghost use Rattle.reader.specs.Inside.Answers.{Starts, Onward, Counted, Took, Refuses, Takes};
+
+    // At the first byte. State 0 is the start.
+    pub fn new(text: &'a [u8]) -> Reader<'a>
+        requires { length text.now ≤ 4096 }
+        ensures { Starts text.now result }
     {
-        Counts {
-            states: self.states + states,
-            rows: self.rows + rows,
+        let counts = Counts { states: 1, rows: 0 };
+        Reader {
+            text,
+            at: 0,
+            counts,
         }
     }
-}
 
-#[derive(Clone, Copy)]
-pub enum Read {
-    Went { at: usize, counts: Counts },
-    Refused(Refusal),
-}
+    // Further on in the text.
+    pub fn onward(self, at: usize) -> Reader<'a>
+        requires { (self.at ≤ at) × (at ≤ length self.text.now) }
+        ensures { Onward self.entry at result }
+    {
+        Reader {
+            text: self.text,
+            at,
+            counts: self.counts,
+        }
+    }
 
-// A sign of one byte. Enums have no `==`, and this byte says which sign it is.
-pub fn sign_at(text: &[u8], at: usize, counts: Counts, wanted: u8) -> Read
-    requires { Ready text.now at counts }
-    ensures { (m : Fixed) (a : List ℕ) → spell m ≡ Spelt.sign (wanted ∷ []) → Answers text.now (spot at (exact m ∷ []) (totals a counts)) [] a result }
-{
-    let token = token_at(text, at);
-    let Token::Sign {
-        at: place,
-        end,
-        sign: _,
-    } = token
-    else {
-        return Read::Refused(refuse(token));
-    };
-    if end - place != 1 {
-        return Read::Refused(refuse(token));
+    // With so many states and rows more.
+    pub fn counting(self, states: usize, rows: usize) -> Reader<'a>
+        requires { (self.counts.states + states ≤ 3 * self.at + 1) × (self.counts.rows + rows ≤ 18 * self.at) }
+        ensures { Counted self.entry states rows result }
+    {
+        let counts = Counts {
+            states: self.counts.states + states,
+            rows: self.counts.rows + rows,
+        };
+        Reader {
+            text: self.text,
+            at: self.at,
+            counts,
+        }
     }
-    if text[place] != wanted {
-        return Read::Refused(refuse(token));
+
+    // What comes first, and the reader behind it.
+    pub fn next(self) -> (Token, Reader<'a>)
+        ensures { Took self.entry result.0 result.1 }
+    {
+        let token = token_at(self.text, self.at);
+        let behind = match token {
+            Token::Word { end, .. }
+            | Token::Number { end, .. }
+            | Token::Letter { end, .. }
+            | Token::Sign { end, .. } => self.onward(end),
+            Token::End { .. } | Token::Broken { .. } => self,
+        };
+        (token, behind)
     }
-    Read::Went { at: end, counts }
+
+    // The refusal of what comes first, for a limit that it breaks.
+    pub fn refusal(self, reason: Reason) -> Refusal
+        ensures { Refuses self.entry reason result }
+    {
+        let refusal = refuse(token_at(self.text, self.at));
+        Refusal {
+            reason,
+            place: refusal.place,
+        }
+    }
+
+    // One word and no other. This and `sign` stay two functions, since each reader takes its own sort of token apart by let .. else.
+    pub fn word(self, wanted: Word) -> Result<Reader<'a>, Refusal>
+        ensures { (l : List ℕ) (m : Fixed) → name wanted ≡ reserved l → spell m ≡ Spelt.word l → Takes m self.entry result }
+    {
+        let (token, behind) = self.next();
+        let Token::Word { word, .. } = token else {
+            return Err(refuse(token));
+        };
+        if word == wanted {
+            Ok(behind)
+        } else {
+            Err(refuse(token))
+        }
+    }
+
+    // One sign and no other.
+    pub fn sign(self, wanted: Sign) -> Result<Reader<'a>, Refusal>
+        ensures { (m : Fixed) → spell m ≡ Spelt.sign (written wanted) → Takes m self.entry result }
+    {
+        let (token, behind) = self.next();
+        let Token::Sign { sign, .. } = token else {
+            return Err(refuse(token));
+        };
+        if sign == wanted {
+            Ok(behind)
+        } else {
+            Err(refuse(token))
+        }
+    }
 }

@@ -7,13 +7,13 @@ mod letters;
 mod numbers;
 mod plain;
 mod programs;
+mod scope;
 mod settings;
 mod statements;
 
 ghost use Rattle.reader.specs.Reading.{ReadsTo};
 
 pub use answers::Counts;
-use answers::Read;
 use programs::program_of;
 use table::reason::{Reason, Refusal};
 
@@ -27,22 +27,18 @@ pub fn read(text: &[u8]) -> Result<Counts, Refusal>
             place: 0,
         });
     }
-    match program_of(text) {
-        Read::Refused(refusal) => Err(refusal),
-        Read::Went { at: _, counts } => {
-            if counts.states > 128 {
-                return Err(Refusal {
-                    reason: Reason::States,
-                    place: text.len(),
-                });
-            }
-            if counts.rows > 1024 {
-                return Err(Refusal {
-                    reason: Reason::Rows,
-                    place: text.len(),
-                });
-            }
-            Ok(counts)
-        }
+    let counts = program_of(text)?;
+    if counts.states > 128 {
+        return Err(Refusal {
+            reason: Reason::States,
+            place: text.len(),
+        });
     }
+    if counts.rows > 1024 {
+        return Err(Refusal {
+            reason: Reason::Rows,
+            place: text.len(),
+        });
+    }
+    Ok(counts)
 }

@@ -3,13 +3,12 @@ ghost use Rattle.std.specs.Prelude.{◌≡◌, List, [], ◌∷◌, ℕ, ◌-◌
 ghost use Rattle.bits.specs.Byte.{is_digit};
 ghost use Rattle.text.specs.Token.{every};
 ghost use Rattle.rule.specs.Inside.Machine.{number, outside};
-ghost use Rattle.reader.specs.Inside.Answers.{totals, spot, Ready, Answers};
+ghost use Rattle.reader.specs.Inside.Answers.{ReadsOn};
 
-use super::answers::{Counts, Read};
+use super::answers::Reader;
 use atoms::refuse;
 use table::reason::{Reason, Refusal};
 use text::Token;
-use tokeniser::token_at;
 
 fn digit(byte: u8) -> usize
     requires { T (is_digit byte) }
@@ -34,19 +33,20 @@ pub fn out_of_range(digits: &[u8], greatest: usize) -> bool
     10 * digit(digits[0]) + digit(digits[1]) > greatest
 }
 
-pub fn number_at(text: &[u8], at: usize, counts: Counts, greatest: usize) -> Read
-    requires { Ready text.now at counts }
-    ensures { (a : List ℕ) → Answers text.now (spot at (number greatest ∷ []) (totals a counts)) [] a result }
-{
-    let token = token_at(text, at);
-    let Token::Number { at: place, end } = token else {
-        return Read::Refused(refuse(token));
-    };
-    if out_of_range(&text[place..end], greatest) {
-        return Read::Refused(Refusal {
-            reason: Reason::Number,
-            place,
-        });
+impl<'a> Reader<'a> {
+    pub fn number(self, greatest: usize) -> Result<Reader<'a>, Refusal>
+        ensures { (a : List ℕ) → ReadsOn self.entry (number greatest ∷ []) [] a result }
+    {
+        let (token, behind) = self.next();
+        let Token::Number { at: place, end } = token else {
+            return Err(refuse(token));
+        };
+        if out_of_range(&self.text[place..end], greatest) {
+            return Err(Refusal {
+                reason: Reason::Number,
+                place,
+            });
+        }
+        Ok(behind)
     }
-    Read::Went { at: end, counts }
 }

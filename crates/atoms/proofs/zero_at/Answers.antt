@@ -3,12 +3,11 @@ use mathlib.Core.Path.{refl, sym, ap, ◌∙◌}
 use Rattle.atoms.specs.Atom.{a_number}
 use Rattle.atoms.specs.Inside.Parts.{behind_zero}
 use Rattle.atoms.proofs.Said.{next, case_stands, case_other, no_numeral}
-use borrow.Enum.Refused.{opened}
 use Rattle.atoms.proofs.zero_at.Goals as goal
 
 pub returns-in_default : goal.returns-in_default
 returns-in_default c =
-    next c.token_at-token.ensures (case_other _ refl (no_numeral _ (opened c.in_default.in_default-own.keys2)) c.refuse.ensures)
+    next c.token_at-token.ensures (case_other _ refl (no_numeral c.in_default.not-Number) c.refuse.ensures)
 
 pub returns-then-not-is_zero : goal.returns-then-not-is_zero
 returns-then-not-is_zero c =

@@ -1,18 +1,16 @@
 -- What the readers of a condition's atoms promise: the atom that the grammar derives, or a refusal.
-use Rattle.std.specs.Prelude.{ℕ, ◌+◌, ◌≤◌, ◌<◌, ◌≡◌, Bool, true, false, List, [], ◌∷◌, length, drop, Ok, Err}
+use Rattle.std.specs.Prelude.{ℕ, ◌+◌, ◌≤◌, ◌<◌, ◌≡◌, Bool, true, false, List, [], ◌∷◌, length, drop, Option, Some, None, Ok, Err}
 use Rattle.text.specs.Token as Spelt
 use Rattle.text.specs.Token.{s}
 use Rattle.text.specs.Tokens.{Placed, ◌at◌, Ending, Tokens}
-use Rattle.text.specs.First.{FirstToken}
-use Rattle.text.specs.declared.Token.{Token}
 use Rattle.rule.specs.Tree as Tree
 use Rattle.rule.specs.Grammar.{Ts, IsAtom}
 use Rattle.rule.specs.Limits.{is_in, number_faults}
+use Rattle.rule.specs.Inside.Class.{Fixed}
 use Rattle.rule.specs.Inside.Machine.{Expected, Totals}
-use Rattle.reader.specs.Inside.Answers.{spot, Stops}
+use Rattle.reader.specs.Inside.Answers.{spot, Stops, Lacks}
 use Rattle.atoms.specs.declared.Symbol.{Symbol as Sought}
 use Rattle.atoms.specs.declared.Atom.{Atom}
-use Rattle.reader.specs.declared.conditions.Stray.{Stray}
 use Rattle.atoms.specs.Atom as Reads
 
 -- an atom of the code is this one of the tree
@@ -33,11 +31,11 @@ rows_of k (Atom.Read equal x) = k + 2
 rows_of k (Atom.Counter zero) = 2
 
 -- where an atom's letter stands, if it is outside the alphabet
-abbrev pub stray_of : List ℕ → Atom → Stray
-stray_of a (Atom.Read equal (Sought.Letter b p)) = elim (is_in b a) [ true ↦ Stray.Nowhere | false ↦ Stray.At p ]
-stray_of a (Atom.Read equal Sought.Lend) = Stray.Nowhere
-stray_of a (Atom.Read equal Sought.Rend) = Stray.Nowhere
-stray_of a (Atom.Counter zero) = Stray.Nowhere
+abbrev pub stray_of : List ℕ → Atom → Option ℕ
+stray_of a (Atom.Read equal (Sought.Letter b p)) = elim (is_in b a) [ true ↦ None | false ↦ Some p ]
+stray_of a (Atom.Read equal Sought.Lend) = None
+stray_of a (Atom.Read equal Sought.Rend) = None
+stray_of a (Atom.Counter zero) = None
 
 -- the number that the counter is compared with is 0
 abbrev pub Zeroed : Tree.Atom → Type 0
@@ -55,19 +53,9 @@ compared false = s "!="
 abbrev pub behind : Spelt.Token → ℕ → Ts → Ts
 behind t p ts = (t at p) ∷ ts
 
-abbrev pub is_sign : Token → Bool
-is_sign (Token.Word p q x) = false
-is_sign (Token.Number p q) = false
-is_sign (Token.Letter p q b) = false
-is_sign (Token.Sign p q x) = true
-is_sign (Token.End p) = false
-is_sign (Token.Broken p) = false
-
--- no sign comes first here
-pub record NoSign (text : List ℕ) (from : ℕ) : Type 0 where
-  pub token : Token
-  pub first : FirstToken text from token
-  pub none : is_sign token ≡ false
+-- neither `(` nor `!` comes first
+abbrev pub OpensNothing : List ℕ → ℕ → Type 0
+OpensNothing text from = Lacks Fixed.opens text from × Lacks Fixed.not text from
 
 -- the tokens from one byte to another, behind some others, are an atom, whose first word is at this place
 pub record IsFound (text : List ℕ) (from : ℕ) (lead : Ts → Ts) (atom : Atom) (to : ℕ) : Type 0 where

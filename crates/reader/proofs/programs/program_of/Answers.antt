@@ -1,66 +1,53 @@
 -- `reader::programs::program_of` meets its contract.
-use native.Mathlib.Omega.{arith}
 use mathlib.Core.List.{[]}
 use Rattle.reader.specs.Inside.Answers.{alphabet_of}
-use Rattle.reader.proofs.Moves.{went, went_ready, comes_then, then, stop}
-use Rattle.reader.proofs.Whole.{refused_outcome, whole, more}
-use borrow.Author.Rules.{rules}
-use borrow.Enum.Refused.{opened}
+use Rattle.atoms.proofs.Exits.{exit}
+use Rattle.reader.proofs.Moves.{went, arrives_on, stops_on, then, stop}
+use Rattle.reader.proofs.Listed.{with_went, with_stop}
+use Rattle.reader.proofs.Whole.{stopped, whole, more}
 use Rattle.reader.proofs.programs.program_of.Goals as goal
 
-pub settings_of-set-requires : goal.settings_of-set-requires
-settings_of-set-requires c = search rules
+pub returns-in_err-settled : goal.returns-in_err-settled
+returns-in_err-settled c = rw (exit _ c.from_residual.ensures.1) (stopped (with_stop c.settings_of.ensures c.in_err-settled.was))
+
+pub returns-in_err-head : goal.returns-in_err-head
+returns-in_err-head c =
+    rw
+    (exit _ c.from_residual-in_err-head.ensures.1)
+    (stopped
+    (stops_on
+    (with_went c.settings_of.ensures c.in_ok-settled.was)
+    (stop {y = []} {b = []} [] (c.head.ensures (alphabet_of c.in_ok-settled.letters)) c.in_err-head.was).right))
+
+pub returns-in_err-reader : goal.returns-in_err-reader
+returns-in_err-reader c =
+    rw
+    (exit _ c.from_residual-in_err-reader.ensures.1)
+    (stopped
+    (stops_on
+    (with_went c.settings_of.ensures c.in_ok-settled.was)
+    (then
+    {y = []}
+    {b = []}
+    []
+    (c.head.ensures (alphabet_of c.in_ok-settled.letters))
+    c.in_ok-head.was
+    (stop [] (rw (c.new.ensures.1, c.new.ensures.0) at c.block.ensures) c.in_err-reader.was)).right))
 
 pub returns-in_default : goal.returns-in_default
-returns-in_default c = refused_outcome (stop [] c.settings_of-set.ensures.answers c.in_default.is) c.in_default.is
-
-pub head_at-head-requires : goal.head_at-head-requires
-head_at-head-requires c = went_ready c.settings_of-set.ensures.answers c.in-Went.is
-
-pub returns-in_default-head : goal.returns-in_default-head
-returns-in_default-head c =
-    refused_outcome
-    (then _ c.settings_of-set.ensures.answers c.in-Went.is (stop _ (c.head_at-head.ensures (alphabet_of c.settings_of-set.result.letters)) c.in_default-head.is))
-    c.in_default-head.is
-
-pub block_at-body-requires : goal.block_at-body-requires
-block_at-body-requires c =
-    record {
-      ready = went_ready (c.head_at-head.ensures (alphabet_of c.settings_of-set.result.letters)) c.in-Went-head.is;
-      sized = (c.settings_of-set.ensures.sized, omega arith);
-    }
-
-pub returns-in_default-body : goal.returns-in_default-body
-returns-in_default-body c =
-    refused_outcome
-    (then
-    _
-    c.settings_of-set.ensures.answers
-    c.in-Went.is
-    (then _ (c.head_at-head.ensures (alphabet_of c.settings_of-set.result.letters)) c.in-Went-head.is (stop _ c.block_at-body.ensures c.in_default-body.is)))
-    c.in_default-body.is
-
-pub token_at-token-requires : goal.token_at-token-requires
-token_at-token-requires c = search rules
-
-pub refuse-requires : goal.refuse-requires
-refuse-requires c = search rules
-
-pub returns-in_default-token : goal.returns-in_default-token
-returns-in_default-token c =
-    more
-    (comes_then
-    (went _ c.settings_of-set.ensures.answers c.in-Went.is)
-    (comes_then (went _ (c.head_at-head.ensures (alphabet_of c.settings_of-set.result.letters)) c.in-Went-head.is) (went _ c.block_at-body.ensures c.in-Went-body.is)))
-    c.token_at-token.ensures
-    (opened c.in_default-token.in_default-token-own.keys2)
-    c.refuse.ensures
+returns-in_default c =
+    let all =
+    (arrives_on
+    (with_went c.settings_of.ensures c.in_ok-settled.was)
+    (arrives_on (went [] (c.head.ensures (alphabet_of c.in_ok-settled.letters)) c.in_ok-head.was) (went [] (rw (c.new.ensures.1, c.new.ensures.0) at c.block.ensures) c.in_ok-reader.was)))
+    in
+    more all.comes c.token_at-token.ensures c.in_default.not-End c.refuse.ensures
 
 pub returns : goal.returns
 returns c =
-    whole
-    (comes_then
-    (went _ c.settings_of-set.ensures.answers c.in-Went.is)
-    (comes_then (went _ (c.head_at-head.ensures (alphabet_of c.settings_of-set.result.letters)) c.in-Went-head.is) (went _ c.block_at-body.ensures c.in-Went-body.is)))
-    c.token_at-token.ensures
-    c.in-End.is
+    let all =
+    (arrives_on
+    (with_went c.settings_of.ensures c.in_ok-settled.was)
+    (arrives_on (went [] (c.head.ensures (alphabet_of c.in_ok-settled.letters)) c.in_ok-head.was) (went [] (rw (c.new.ensures.1, c.new.ensures.0) at c.block.ensures) c.in_ok-reader.was)))
+    in
+    whole all.comes c.token_at-token.ensures c.in-End.is
