@@ -13,7 +13,7 @@ use borrow.Author.Tests.{eq-eqb, ne_eqb}
 use Rattle.table.specs.Table.{Row}
 use Rattle.table.specs.Form.{either_counter, left_mark, right_mark}
 use Rattle.construction.specs.Construction.{test_row, count_up, all_symbols, without, symbol_rows}
-use Rattle.compiler.specs.Inside.Writing.{Sheet, Holds, Filled, Room, Writes, Counts}
+use Rattle.compiler.specs.Inside.Writing.{Sheet, Holds, Filled, Room, Writes, HasLetters}
 use Rattle.atoms.specs.declared.Symbol.{Symbol}
 use Rattle.atoms.specs.declared.Atom.{Atom as Tested}
 use Rattle.compiler.specs.Inside.Atoms.{counter_rows, read_rows, code_of, walked_as, rows_of, Codes}
@@ -178,7 +178,7 @@ module _ (x p q : ℕ) where
 
   module _ {before : List ℕ} {place i end : ℕ} {out : List ℕ} (so_far : Partly before place x p q i out end) where
     pub partly_room : (room : Room before place (other_rows x p q)) (y letters : ℕ)
-        → Counts before letters
+        → HasLetters before letters
         → i < letters + 2
         → ((alphabet : List ℕ) → letters ≡ length alphabet → y ≡ get_or (all_symbols alphabet) i 0)
         → Room out end (λ _. symbol_rows (without x (y ∷ [])) p q)
@@ -194,7 +194,7 @@ module _ (x p q : ℕ) where
 
     -- and it is written
     pub partly_more : (y letters : ℕ) (after : List ℕ) (end' : ℕ)
-        → Counts before letters
+        → HasLetters before letters
         → i < letters + 2
         → ((alphabet : List ℕ) → letters ≡ length alphabet → y ≡ get_or (all_symbols alphabet) i 0)
         → Writes out after end end' (λ _. symbol_rows (without x (y ∷ [])) p q)
@@ -217,7 +217,7 @@ module _ (x p q : ℕ) where
             (w.writes (so_far.partly filled fits) (next_fits earlier h.alphabet i y h.count low e fits))
 
     -- in the end all of them
-    pub partly_all : (letters : ℕ) → Counts before letters → letters + 2 ≤ i → Writes before out place end (other_rows x p q)
+    pub partly_all : (letters : ℕ) → HasLetters before letters → letters + 2 ≤ i → Writes before out place end (other_rows x p q)
     partly_all letters count past = record { writes = λ filled fits. all filled fits (count.counts filled.holds) }
       where
         all : {h : Sheet} {accepting : List ℕ} {earlier : List Row}

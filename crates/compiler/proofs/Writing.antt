@@ -22,7 +22,7 @@ use Rattle.table.proofs.Image.{length-rows, length-field}
 use Rattle.construction.specs.Construction.{with_bits, index_in}
 use Rattle.construction.specs.Compile.{image_room}
 use Rattle.bits.specs.Inside.Over.{over}
-use Rattle.compiler.specs.Inside.Writing.{Sheet, front, accept_bytes, written, row_place, Holds, Filled, Room, Writes, Sets, Heads, Counts}
+use Rattle.compiler.specs.Inside.Writing.{Sheet, front, accept_bytes, written, row_place, Holds, Filled, Room, Writes, Sets, Heads, HasLetters}
 use Rattle.construction.proofs.SetBit.{length_accept}
 
 regroup : (a b c d : List ℕ) → (a ++ (b ++ c)) ++ d ≡ a ++ (b ++ (c ++ d))
@@ -216,7 +216,7 @@ bits_more (x ∷ xs) bytes state = bits_more xs (with_bit bytes x) state
 
 -- an accept bit is set in its part of the buffer
 pub marks_bit : (before after part : List ℕ) (letters from many state : ℕ)
-    → Counts before letters
+    → HasLetters before letters
     → from ≡ accepting_place letters
     → many ≡ accepting_bytes
     → part ≡ with_bit (take many (drop from before)) state

@@ -69,11 +69,7 @@ fn emit_settings(cursor: &mut Cursor<'_>, out: &mut [u8]) -> Settled
 }
 
 // Everything before the first statement: what the image has before its rows, and past the `{`.
-pub fn begin<'o>(
-    cursor: &mut Cursor<'_>,
-    out: &'o mut [u8],
-    counts: Counts,
-) -> Image<'o>
+pub fn begin<'o>(cursor: &mut Cursor<'_>, out: &'o mut [u8], counts: Counts) -> Image<'o>
     requires { Emittable cursor.old.text.now out.old counts.states counts.rows × (cursor.old.at ≡ 0) }
     ensures { Begins cursor.old cursor.new out.entry counts.states counts.rows result }
 {

@@ -6,7 +6,7 @@ ghost use Rattle.table.specs.RowCode.{row_is};
 ghost use Rattle.construction.specs.Compile.{image_room};
 ghost use Rattle.construction.specs.Construction.{test_row, free, index_in};
 ghost use Rattle.bits.specs.Inside.Over.{over};
-ghost use Rattle.compiler.specs.Inside.Writing.{Held, Room, Adds, Marks, Heads, Indexes, Counts};
+ghost use Rattle.compiler.specs.Inside.Writing.{Held, Room, Adds, Marks, Heads, Indexes, HasLetters};
 
 use reader::Counts;
 use table::{Row, form};
@@ -107,7 +107,7 @@ impl Image<'_> {
     // How many letters the image has.
     pub fn letters(&self) -> usize
         requires { Held self.now.out.now }
-        ensures { Counts self.now.out.now result }
+        ensures { HasLetters self.now.out.now result }
     {
         self.out[form::COUNT_PLACE] as usize
     }

@@ -96,5 +96,5 @@ pub record Heads (before after : List ℕ) (count : ℕ) (decr_on_zero : Bool) (
 pub record Indexes (out : List ℕ) (byte index : ℕ) : Type 0 where
   pub finds : {h : Sheet} {accepting : List ℕ} {rows : List Row} → Holds h accepting rows out → index ≡ index_in h.alphabet byte
 
-pub record Counts (out : List ℕ) (many : ℕ) : Type 0 where
+pub record HasLetters (out : List ℕ) (many : ℕ) : Type 0 where
   pub counts : {h : Sheet} {accepting : List ℕ} {rows : List Row} → Holds h accepting rows out → many ≡ length h.alphabet

@@ -1,6 +1,6 @@
 -- The loop's invariant: the value so far and the digits that are left give the whole value.
 use native.Mathlib.Omega.{arith}
-use Rattle.compiler.proofs.Seeing.{count_none, digit_bounds, count_more, count_all}
+use Rattle.compiler.proofs.Seeing.{digit_bounds, count_more, count_all}
 use Rattle.compiler.proofs.see.value.Goals as goal
 
 pub overflow_mul-value : goal.overflow_mul-value

@@ -1,11 +1,9 @@
 -- The loop's invariant: the cursor is behind so many tokens as turns were taken.
 use Prim.Native.Nat.{ℕ}
 use native.Mathlib.Omega.{arith}
-use mathlib.Core.Path.{◌≡◌, refl, ap, subst, ◌∙◌}
-use lib.ListN.{drop}
+use mathlib.Core.Path.{ap, ◌∙◌}
 use Rattle.std.specs.Prelude.{unwrap_or, Option}
-use Rattle.compiler.specs.Inside.Seeing.{Reaches}
-use Rattle.compiler.proofs.Seeing.{reach_none, skip_more, end_or}
+use Rattle.compiler.proofs.Seeing.{skip_more, end_or}
 use Rattle.compiler.proofs.see.Cursor.skip.Goals as goal
 
 pub loop-preserved : goal.loop-preserved
@@ -17,4 +15,3 @@ loop-preserved c = (
       let end = c.unwrap_or-self.ensures ∙ ap (λ (o : Option ℕ). unwrap_or o c.loop.self.at) c.end_of.ensures ∙ end_or c.loop.self.at r in
       skip_more r ts (omega arith) (c.loop.invariant.1 ts h fits) first end,
 )
-
