@@ -8,7 +8,7 @@ use Rattle.text.specs.Tokens.{Placed}
 use Rattle.table.specs.Table.{Row}
 use Rattle.rule.specs.Grammar.{Ts}
 use Rattle.construction.specs.Construction.{Part}
-use Rattle.compiler.specs.Inside.Writing.{Sheet, Held, Filled, Room, Writes}
+use Rattle.compiler.specs.Inside.Writing.{Sheet, Filled, Room, Writes}
 use Rattle.compiler.specs.Inside.Seeing.{Here, Reaches, GoesPast}
 use Rattle.compiler.specs.Inside.Place.{Place, place_of}
 use Rattle.compiler.specs.Inside.Emission.{Same, At, Task, Doing, Ready, Emitted, Emits, rows_part}
@@ -69,10 +69,6 @@ module _ {task : Task} {k k' : Cursor} (same : k' ≡ k) {image : MutBor Image} 
       subst (λ (c : Cursor). Emits task e (record { cursor = c; image = image; state = state; next = next })) (sym same) f
 
 module _ {text out : List ℕ} {place : Place} {h : Sheet} {accepting : List ℕ} {rows : List Row} {p next : ℕ} {ts : Ts} (stands : At text out place h accepting rows p next ts) where
-  -- the image is there
-  pub at_held : Held out
-  at_held = record { sheet = h; accepting = accepting; rows = rows; holds = stands.filled.holds }
-
   -- rows that fit have room
   pub at_room : (xs : List ℕ → List Row) → length rows + length (xs h.alphabet) ≤ h.count → Room out place.row xs
   at_room xs fits = record { sheet = h; accepting = accepting; earlier = rows; filled = stands.filled; fits = fits }

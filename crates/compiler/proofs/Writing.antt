@@ -138,10 +138,6 @@ lead_rest : (h : Sheet) (accepting : List ℕ) (rows : List Row) → written h a
 unfolding written front lead back rest
 lead_rest h accepting rows = simp append_assoc
 
-length_lead : (h : Sheet) → length (lead h) ≡ length h.alphabet + letters_place
-unfolding lead
-length_lead h = simp (length-append, length-field) (omega arith)
-
 -- the index of a byte, told from those before a place that are others
 index_passed : (xs : List ℕ) (b n : ℕ) → n ≤ length xs → ((k : ℕ) → k < n → ¬ (get_or xs k 0 ≡ b)) → index_in xs b ≡ n + index_in (drop n xs) b
 unfolding index_in
