@@ -13,10 +13,8 @@ use borrow.Author.Tests.{eq-eqb, ne_eqb}
 use Rattle.table.specs.Table.{Row}
 use Rattle.table.specs.Form.{either_counter, left_mark, right_mark}
 use Rattle.construction.specs.Construction.{test_row, count_up, all_symbols, without, symbol_rows}
-use Rattle.compiler.specs.Inside.Writing.{Sheet, Holds, Filled, Room, Writes, Counts}
-use Rattle.atoms.specs.declared.Symbol.{Symbol}
-use Rattle.atoms.specs.declared.Atom.{Atom as Tested}
-use Rattle.compiler.specs.Inside.Atoms.{counter_rows, read_rows, code_of, walked_as, rows_of, Codes}
+use Rattle.compiler.specs.Inside.Writing.{Sheet, Holds, Filled, Room, Writes, HasLetters}
+use Rattle.compiler.specs.Inside.Atoms.{read_rows}
 use Rattle.construction.proofs.Symbols.{length-count_up, length_symbols}
 
 -- the symbols by their number
@@ -178,7 +176,7 @@ module _ (x p q : ℕ) where
 
   module _ {before : List ℕ} {place i end : ℕ} {out : List ℕ} (so_far : Partly before place x p q i out end) where
     pub partly_room : (room : Room before place (other_rows x p q)) (y letters : ℕ)
-        → Counts before letters
+        → HasLetters before letters
         → i < letters + 2
         → ((alphabet : List ℕ) → letters ≡ length alphabet → y ≡ get_or (all_symbols alphabet) i 0)
         → Room out end (λ _. symbol_rows (without x (y ∷ [])) p q)
@@ -194,7 +192,7 @@ module _ (x p q : ℕ) where
 
     -- and it is written
     pub partly_more : (y letters : ℕ) (after : List ℕ) (end' : ℕ)
-        → Counts before letters
+        → HasLetters before letters
         → i < letters + 2
         → ((alphabet : List ℕ) → letters ≡ length alphabet → y ≡ get_or (all_symbols alphabet) i 0)
         → Writes out after end end' (λ _. symbol_rows (without x (y ∷ [])) p q)
@@ -217,7 +215,7 @@ module _ (x p q : ℕ) where
             (w.writes (so_far.partly filled fits) (next_fits earlier h.alphabet i y h.count low e fits))
 
     -- in the end all of them
-    pub partly_all : (letters : ℕ) → Counts before letters → letters + 2 ≤ i → Writes before out place end (other_rows x p q)
+    pub partly_all : (letters : ℕ) → HasLetters before letters → letters + 2 ≤ i → Writes before out place end (other_rows x p q)
     partly_all letters count past = record { writes = λ filled fits. all filled fits (count.counts filled.holds) }
       where
         all : {h : Sheet} {accepting : List ℕ} {earlier : List Row}
@@ -228,38 +226,7 @@ module _ (x p q : ℕ) where
         all {h} {accepting} {earlier} filled fits counted =
             subst (λ (rows : List Row). Filled h accepting (earlier ++ rows) out end) (last_rows x p q h.alphabet i (omega arith)) (so_far.partly filled fits)
 
--- an atom's rows by how it is walked
-pub counter_as : {is t : Bool} → is ≡ t → (p q : ℕ) → counter_rows is p q ≡ counter_rows t p q
-counter_as e p q = ap (λ (t : Bool). counter_rows t p q) e
-
+-- the row of a test of what is read, walked as `==`
 pub read_is_lem : {is : Bool} → is ≡ true → (alphabet : List ℕ) (code p q : ℕ) → read_rows alphabet is code p q ≡ test_row code either_counter p q ∷ []
 unfolding symbol_rows
 read_is_lem e alphabet code p q = ap (λ (t : Bool). read_rows alphabet t code p q) e
-
-pub read_is_not_lem : {is : Bool} → is ≡ false → (alphabet : List ℕ) (code p q : ℕ) → read_rows alphabet is code p q ≡ other_rows code p q alphabet
-read_is_not_lem e alphabet code p q = ap (λ (t : Bool). read_rows alphabet t code p q) e
-
--- the rows by what the reader answers: of a test of what is read, and of the counter
-pub read_rows_are : {tests : Tested} {equal : Bool} {symbol : Symbol} (sign is : Bool) (alphabet : List ℕ) (code p q : ℕ)
-    → tests ≡ Tested.Read equal symbol
-    → is ≡ walked_as equal sign
-    → code ≡ code_of alphabet symbol
-    → rows_of tests sign alphabet p q ≡ read_rows alphabet is code p q
-read_rows_are {symbol = symbol} sign is alphabet code p q tests walked codes =
-    ap (λ (t : Tested). rows_of t sign alphabet p q) tests
-    ∙ ap (λ (t : Bool). read_rows alphabet t (code_of alphabet symbol) p q) (sym walked)
-    ∙ ap (λ (n : ℕ). read_rows alphabet is n p q) (sym codes)
-
-pub counter_rows_are : {tests : Tested} {zero : Bool} (sign is : Bool) (alphabet : List ℕ) (p q : ℕ)
-    → tests ≡ Tested.Counter zero
-    → is ≡ walked_as zero sign
-    → rows_of tests sign alphabet p q ≡ counter_rows is p q
-counter_rows_are sign is alphabet p q tests walked =
-    ap (λ (t : Tested). rows_of t sign alphabet p q) tests ∙ ap (λ (t : Bool). counter_rows t p q) (sym walked)
-
--- the code of a symbol that is known
-pub symbol_codes : {out : List ℕ} {x y : Symbol} {code : ℕ}
-    → x ≡ y
-    → ((h : Sheet) (accepting : List ℕ) (rows : List Row) → Holds h accepting rows out → code ≡ code_of h.alphabet y)
-    → Codes out x code
-symbol_codes {out} {code = code} e known = subst (λ (z : Symbol). Codes out z code) (sym e) (record { is = λ holds. known _ _ _ holds })

@@ -51,14 +51,7 @@ use Rattle.compiler.specs.Inside.Atoms.{read_rows, code_of, rows_of}
 use Rattle.compiler.proofs.Tags.{word_tag, sign_tag}
 use Rattle.compiler.proofs.Seeing.{word_in, sign_in, end_from, first_seen, seen_behind, seen_word, seen_sign, no_other, no_semicolon}
 
--- the first of some tokens: its sort, its place, its byte
-abbrev sort_at : List Placed → ℕ
-sort_at [] = 4
-sort_at ((word l at p) ∷ ts) = 0
-sort_at ((number l at p) ∷ ts) = 1
-sort_at ((letter b at p) ∷ ts) = 2
-sort_at ((sign l at p) ∷ ts) = 3
-
+-- the first of some tokens: its place, its byte
 abbrev place_at : List Placed → ℕ
 place_at [] = 0
 place_at ((t at p) ∷ ts) = p
@@ -96,23 +89,23 @@ sign_token (Token.Broken p) y n e = absurd (no_semicolon y n e)
 
 module _ (text : List ℕ) (us : Ts) (e : Ending) where
   letter_token_lem : (b p : ℕ) (t : Token) → Begins text ((letter b at p) ∷ us) e t → (q : ℕ) × (t ≡ Token.Letter p q b)
-  letter_token_lem b p (Token.Word o q x) n = absurd (let no : ◌≡◌ {A = ℕ} 2 0 = ap sort_at n.next.first in omega arith)
-  letter_token_lem b p (Token.Number o q) n = absurd (let no : ◌≡◌ {A = ℕ} 2 1 = ap sort_at n.first in omega arith)
+  letter_token_lem b p (Token.Word o q x) n = absurd (let same = n.next.first in cc)
+  letter_token_lem b p (Token.Number o q) n = absurd (let same = n.first in cc)
   letter_token_lem b p (Token.Letter o q c) n =
       let place = ap place_at n.first in
       let byte = ap byte_at n.first in
       (q, λ i. Token.Letter (sym place i) q (sym byte i))
-  letter_token_lem b p (Token.Sign o q x) n = absurd (let no : ◌≡◌ {A = ℕ} 2 3 = ap sort_at n.first in omega arith)
+  letter_token_lem b p (Token.Sign o q x) n = absurd (let same = n.first in cc)
   letter_token_lem b p (Token.End o) n = absurd (cons≢nil n.none)
   letter_token_lem b p (Token.Broken o) n = absurd (cons≢nil n.none)
 
   number_token : (l : List ℕ) (p : ℕ) (t : Token) → Begins text ((number l at p) ∷ us) e t → (q : ℕ) × (t ≡ Token.Number p q) × (l ≡ part text p q)
-  number_token l p (Token.Word o q x) n = absurd (let no : ◌≡◌ {A = ℕ} 1 0 = ap sort_at n.next.first in omega arith)
+  number_token l p (Token.Word o q x) n = absurd (let same = n.next.first in cc)
   number_token l p (Token.Number o q) n =
       let place = ap place_at n.first in
       (q, (λ i. Token.Number (sym place i) q), ap digits_at n.first ∙ ap (λ (m : ℕ). part text m q) (sym place))
-  number_token l p (Token.Letter o q c) n = absurd (let no : ◌≡◌ {A = ℕ} 1 2 = ap sort_at n.first in omega arith)
-  number_token l p (Token.Sign o q x) n = absurd (let no : ◌≡◌ {A = ℕ} 1 3 = ap sort_at n.first in omega arith)
+  number_token l p (Token.Letter o q c) n = absurd (let same = n.first in cc)
+  number_token l p (Token.Sign o q x) n = absurd (let same = n.first in cc)
   number_token l p (Token.End o) n = absurd (cons≢nil n.none)
   number_token l p (Token.Broken o) n = absurd (cons≢nil n.none)
 

@@ -1,25 +1,26 @@
 -- Laws of the emitter's places: room for rows that are to come, rows that are written, and places that are put together anew.
 use Prim.Native.Nat.{ℕ, ◌+◌, ◌≤◌, ◌<◌}
 use native.Mathlib.Omega.{arith}
-use mathlib.Core.Path.{◌≡◌, sym, subst}
+use mathlib.Core.Path.{◌≡◌, sym, subst, ◌∙◌}
 use mathlib.Core.List.{List, ◌∷◌, ◌++◌, append-nil}
 use lib.ListN.{length, length-append}
 use Rattle.text.specs.Tokens.{Placed}
 use Rattle.table.specs.Table.{Row}
 use Rattle.rule.specs.Grammar.{Ts}
 use Rattle.construction.specs.Construction.{Part}
-use Rattle.compiler.specs.Inside.Writing.{Sheet, Held, Filled, Room, Writes}
+use Rattle.compiler.specs.Inside.Writing.{Sheet, Filled, Room, Writes}
 use Rattle.compiler.specs.Inside.Seeing.{Here, Reaches, GoesPast}
 use Rattle.compiler.specs.Inside.Place.{Place, place_of}
-use Rattle.compiler.specs.Inside.Emission.{At, Task, Doing, Ready, Emitted, Emits, rows_part}
+use Rattle.compiler.specs.Inside.Emission.{Same, At, Task, Doing, Ready, Emitted, Emits, rows_part}
 use Rattle.compiler.specs.declared.Emitter.{Emitter}
 use Rattle.compiler.specs.declared.see.Cursor.{Cursor}
+use Rattle.compiler.specs.declared.write.Image.{Image}
 use Rattle.std.specs.Borrow.{MutBor}
 
 -- a task that can be done, in the text that the emitter goes over
 pub ready_in : {task : Task} {e : Emitter} {text : List ℕ} {h : Sheet} {accepting : List ℕ} {rows : List Row} {p next : ℕ} {ts us : Ts} {part : Part}
     → e.cursor.text.now ≡ text
-    → Doing task text e.out.now (place_of e) h accepting rows p next ts us part
+    → Doing task text e.image.now.out.now (place_of e) h accepting rows p next ts us part
     → Ready task e
 ready_in {task} {e} {h = h} {accepting = accepting} {rows = rows} {p = p} {next = next} {ts = ts} {us = us} {part = part} same d =
     record {
@@ -31,11 +32,11 @@ ready_in {task} {e} {h = h} {accepting = accepting} {rows = rows} {p = p} {next 
       ts = _;
       us = _;
       part = _;
-      doing = subst (λ (t : List ℕ). Doing task t e.out.now (place_of e) h accepting rows p next ts us part) (sym same) d;
+      doing = subst (λ (t : List ℕ). Doing task t e.image.now.out.now (place_of e) h accepting rows p next ts us part) (sym same) d;
     }
 
 pub ready : {task : Task} {e : Emitter} {h : Sheet} {accepting : List ℕ} {rows : List Row} {p next : ℕ} {ts us : Ts} {part : Part}
-    → Doing task e.cursor.text.now e.out.now (place_of e) h accepting rows p next ts us part
+    → Doing task e.cursor.text.now e.image.now.out.now (place_of e) h accepting rows p next ts us part
     → Ready task e
 ready d =
     record { sheet = _; accepting = _; rows = _; from = _; next = _; ts = _; us = _; part = _; doing = d }
@@ -44,30 +45,30 @@ ready d =
 pub emits_in : {task : Task} {e r : Emitter} {text : List ℕ} {h : Sheet} {accepting : List ℕ} {rows : List Row} {p next : ℕ} {ts us : Ts} {part : Part}
     → Emits task e r
     → e.cursor.text.now ≡ text
-    → Doing task text e.out.now (place_of e) h accepting rows p next ts us part
-    → Emitted text r.out.now (place_of r) h accepting rows us part
+    → Doing task text e.image.now.out.now (place_of e) h accepting rows p next ts us part
+    → Emitted text r.image.now.out.now (place_of r) h accepting rows us part
 emits_in {task} {e} {r} {text} {h} {accepting} {rows} {p} {next} {ts} {us} {part} emits same =
-    subst (λ (t : List ℕ). Doing task t e.out.now (place_of e) h accepting rows p next ts us part → Emitted t r.out.now (place_of r) h accepting rows us part) same emits.emits
+    subst (λ (t : List ℕ). Doing task t e.image.now.out.now (place_of e) h accepting rows p next ts us part → Emitted t r.image.now.out.now (place_of r) h accepting rows us part) same emits.emits
+
+-- the same image throughout
+pub same_then : {i j k : MutBor Image} → Same i j → Same j k → Same i k
+same_then a b = record { name = b.name ∙ a.name; out = b.out ∙ a.out }
 
 -- an emitter with an equal cursor is the same
-module _ {task : Task} {k k' : Cursor} (same : k' ≡ k) {out : MutBor (List ℕ)} {state next row : ℕ} where
-  pub ready_at : Ready task (record { cursor = k; out = out; state = state; next = next; row = row }) → Ready task (record { cursor = k'; out = out; state = state; next = next; row = row })
+module _ {task : Task} {k k' : Cursor} (same : k' ≡ k) {image : MutBor Image} {state next : ℕ} where
+  pub ready_at : Ready task (record { cursor = k; image = image; state = state; next = next }) → Ready task (record { cursor = k'; image = image; state = state; next = next })
   ready_at r =
-      subst (λ (c : Cursor). Ready task (record { cursor = c; out = out; state = state; next = next; row = row })) (sym same) r
+      subst (λ (c : Cursor). Ready task (record { cursor = c; image = image; state = state; next = next })) (sym same) r
 
-  pub emits_at : {r : Emitter} → Emits task (record { cursor = k'; out = out; state = state; next = next; row = row }) r → Emits task (record { cursor = k; out = out; state = state; next = next; row = row }) r
+  pub emits_at : {r : Emitter} → Emits task (record { cursor = k'; image = image; state = state; next = next }) r → Emits task (record { cursor = k; image = image; state = state; next = next }) r
   emits_at {r} e =
-      subst (λ (c : Cursor). Emits task (record { cursor = c; out = out; state = state; next = next; row = row }) r) same e
+      subst (λ (c : Cursor). Emits task (record { cursor = c; image = image; state = state; next = next }) r) same e
 
-  pub emits_until : {e : Emitter} → Emits task e (record { cursor = k; out = out; state = state; next = next; row = row }) → Emits task e (record { cursor = k'; out = out; state = state; next = next; row = row })
+  pub emits_until : {e : Emitter} → Emits task e (record { cursor = k; image = image; state = state; next = next }) → Emits task e (record { cursor = k'; image = image; state = state; next = next })
   emits_until {e} f =
-      subst (λ (c : Cursor). Emits task e (record { cursor = c; out = out; state = state; next = next; row = row })) (sym same) f
+      subst (λ (c : Cursor). Emits task e (record { cursor = c; image = image; state = state; next = next })) (sym same) f
 
 module _ {text out : List ℕ} {place : Place} {h : Sheet} {accepting : List ℕ} {rows : List Row} {p next : ℕ} {ts : Ts} (stands : At text out place h accepting rows p next ts) where
-  -- the image is there
-  pub at_held : Held out
-  at_held = record { sheet = h; accepting = accepting; rows = rows; holds = stands.filled.holds }
-
   -- rows that fit have room
   pub at_room : (xs : List ℕ → List Row) → length rows + length (xs h.alphabet) ≤ h.count → Room out place.row xs
   at_room xs fits = record { sheet = h; accepting = accepting; earlier = rows; filled = stands.filled; fits = fits }

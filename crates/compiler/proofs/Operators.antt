@@ -7,16 +7,12 @@ use mathlib.Core.Path.{◌≡◌, refl, sym, ◌∙◌, ap, subst}
 use mathlib.Core.Bool.{Bool, true, false, not, true≢false}
 use mathlib.Core.List.{List, [], ◌∷◌}
 use lib.Dec.{T}
-use mir.Val.{has_key}
-use types.Run.{OneOf, miss}
-use denote.Enum.Declared.{tag_of}
 use Rattle.text.specs.Token as Spec
 use Rattle.text.specs.Token.{sign, w, s}
 use Rattle.text.specs.Tokens.{Placed, ◌at◌}
 use Rattle.text.specs.First.{written}
 use Rattle.text.specs.declared.Word.{Word}
 use Rattle.text.specs.declared.Sign.{Sign}
-use Rattle.text.specs.contracts.Sign.{the_type}
 use Rattle.rule.specs.Tree as Tree
 use Rattle.rule.specs.Tree.{Condition}
 use Rattle.rule.specs.Grammar.{
@@ -109,32 +105,31 @@ and_told Operator.And = refl
 and_told Operator.Or = refl
 
 -- a sign that is none of these counts for nothing
-pub other_mark : (ks : List ℕ) (x : Sign)
-    → T (not (has_key ks 4))
-    → T (not (has_key ks 5))
-    → T (not (has_key ks 11))
-    → T (not (has_key ks 12))
-    → OneOf ks (tag_of the_type x)
+pub other_mark : (x : Sign)
+    → ¬ (x ≡ Sign.OpenParen)
+    → ¬ (x ≡ Sign.CloseParen)
+    → ¬ (x ≡ Sign.Or)
+    → ¬ (x ≡ Sign.And)
     → mark_of x ≡ other
-other_mark ks Sign.Becomes a b c d h = refl
-other_mark ks Sign.Equals a b c d h = refl
-other_mark ks Sign.Differs a b c d h = refl
-other_mark ks Sign.Not a b c d h = refl
-other_mark ks Sign.And a b c d h = absurd (miss ks 4 a h)
-other_mark ks Sign.Or a b c d h = absurd (miss ks 5 b h)
-other_mark ks Sign.Increment a b c d h = refl
-other_mark ks Sign.Decrement a b c d h = refl
-other_mark ks Sign.Add a b c d h = refl
-other_mark ks Sign.Subtract a b c d h = refl
-other_mark ks Sign.Minus a b c d h = refl
-other_mark ks Sign.OpenParen a b c d h = absurd (miss ks 11 c h)
-other_mark ks Sign.CloseParen a b c d h = absurd (miss ks 12 d h)
-other_mark ks Sign.OpenBrace a b c d h = refl
-other_mark ks Sign.CloseBrace a b c d h = refl
-other_mark ks Sign.OpenBracket a b c d h = refl
-other_mark ks Sign.CloseBracket a b c d h = refl
-other_mark ks Sign.Comma a b c d h = refl
-other_mark ks Sign.Semicolon a b c d h = refl
+other_mark Sign.Becomes a b c d = refl
+other_mark Sign.Equals a b c d = refl
+other_mark Sign.Differs a b c d = refl
+other_mark Sign.Not a b c d = refl
+other_mark Sign.And a b c d = absurd (d refl)
+other_mark Sign.Or a b c d = absurd (c refl)
+other_mark Sign.Increment a b c d = refl
+other_mark Sign.Decrement a b c d = refl
+other_mark Sign.Add a b c d = refl
+other_mark Sign.Subtract a b c d = refl
+other_mark Sign.Minus a b c d = refl
+other_mark Sign.OpenParen a b c d = absurd (a refl)
+other_mark Sign.CloseParen a b c d = absurd (b refl)
+other_mark Sign.OpenBrace a b c d = refl
+other_mark Sign.CloseBrace a b c d = refl
+other_mark Sign.OpenBracket a b c d = refl
+other_mark Sign.CloseBracket a b c d = refl
+other_mark Sign.Comma a b c d = refl
+other_mark Sign.Semicolon a b c d = refl
 
 written_mark : (x : Sign) → mark_of x ≡ marked (sign (written x))
 written_mark Sign.Becomes = refl

@@ -199,10 +199,7 @@ pub tail_behind : {text : List ℕ} {from p e b : ℕ} (ts : List Placed) {x : W
 tail_behind [] some seen = absurd (omega arith)
 tail_behind (t ∷ ts) some seen = seen_behind seen
 
--- behind no token is the place itself, and behind one more where the next one ends
-pub reach_none : {text : List ℕ} {from : ℕ} {ts : List Placed} → Here text from ts → Reaches text from 0 from ts
-reach_none h = record { onward = omega arith; here = h }
-
+-- behind one token more is where the next one ends
 pub reach_more : {text : List ℕ} {from i mid : ℕ} (end : ℕ) (ts : List Placed) → i < length ts → Reaches text from i mid (drop i ts) → Behind text mid end (drop 1 (drop i ts)) → Reaches text from (i + 1) end (drop (i + 1) ts)
 reach_more {text} {from} {i} {mid} end ts more r b =
     record {
@@ -219,9 +216,6 @@ value_least (d ∷ ds) n = omega (arith, value_least ds (10 * n + (d - 48)))
 pub record Counting (ds : List ℕ) (value i : ℕ) : Type 0 where
   pub digits : T (every is_digit (drop i ds))
   pub same : value_from value (drop i ds) ≡ value_from 0 ds
-
-pub count_none : {ds : List ℕ} → Digits ds → Counting ds 0 0
-count_none d = record { digits = d.digits; same = refl }
 
 module _ (ds : List ℕ) (value i : ℕ) (d : Digits ds) (c : Counting ds value i) where
   -- a digit more

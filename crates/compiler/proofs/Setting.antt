@@ -40,9 +40,11 @@ use Rattle.bits.specs.Inside.Over.{over}
 use Rattle.compiler.specs.Inside.Writing.{accept_bytes, written, row_place, Holds, Heads}
 use Rattle.compiler.specs.Inside.Seeing.{Here, Behind, SeesWord, SeesSign, NotWord, NotSign, GoesPast, AtWord, AtLetter, ReadsLetter}
 use Rattle.compiler.specs.Inside.Emission.{Emits, RestTask, the_rest}
-use Rattle.compiler.specs.Inside.Setting.{LettersAt, Letters, Listing, Lists, TruthAt, yes_at, no_at, AtTruth, Tells, SettingsAt, Settings, Settling, Settles, Fits, sheet_of, Beginning, Image}
+use Rattle.compiler.specs.Inside.Setting.{LettersAt, Letters, Listing, Lists, TruthAt, yes_at, no_at, AtTruth, Tells, SettingsAt, Settings, Settling, Settles, Fits, sheet_of, Beginning, IsImage}
 use Rattle.compiler.specs.declared.Emitter.{Emitter}
 use Rattle.compiler.specs.declared.see.Cursor.{Cursor}
+use Rattle.compiler.specs.declared.write.Image.{Image}
+use Rattle.std.specs.Borrow.{MutBor}
 use Rattle.compiler.specs.declared.settings.Settled.{Settled}
 use Rattle.compiler.proofs.Writing.{length-written, written_whole}
 use Rattle.compiler.proofs.Seeing.{seen_behind, seen_word, seen_sign}
@@ -463,16 +465,14 @@ module _ {text before : List ℕ} {states rows : ℕ} {p : Program} (fits : Fits
     )
 
     -- the header is written, and the block's statements are next
-    pub fits_beginning : {e : Emitter}
-        → e.cursor.text.now ≡ text
-        → GoesPast text r.at 5 e.cursor.at
-        → Heads middle e.out.now settled.count settled.decr_on_zero states rows
-        → e.state ≡ 0
-        → e.next ≡ 1
-        → e.row ≡ rows_place settled.count
-        → Beginning text before states rows p e
+    pub fits_beginning : {k' : Cursor} {i : Image}
+        → k'.text.now ≡ text
+        → GoesPast text r.at 5 k'.at
+        → Heads middle i.out.now settled.count settled.decr_on_zero states rows
+        → i.row ≡ rows_place settled.count
+        → Beginning before states rows p k' i
     unfolding program_part construct
-    fits_beginning {e} text-is pass heads state takes row =
+    fits_beginning {k'} {i} text-is pass heads row =
         let alphabet = letter_bytes p.alphabet in
         let count : settled.count ≡ length alphabet = settling.count ∙ sym (length-letter_bytes p.alphabet) in
         let holds = heads.heads before alphabet settling.bytes count in
@@ -481,17 +481,17 @@ module _ {text before : List ℕ} {states rows : ℕ} {p : Program} (fits : Fits
           doing = record {
             stands = record {
               here =
-                  subst (λ (t : List ℕ). Here t e.cursor.at opens.rest) (sym text-is)
-                  (subst (Here text e.cursor.at) opens.is (pass.behind _ settling.here opens.long).here);
+                  subst (λ (t : List ℕ). Here t k'.at opens.rest) (sym text-is)
+                  (subst (Here text k'.at) opens.is (pass.behind _ settling.here opens.long).here);
               filled = record {
                 holds =
-                    subst (λ (decr_on_zero : Bool). Holds (record { old = before; alphabet = alphabet; decr_on_zero = decr_on_zero; states = states; count = rows }) [] [] e.out.now)
+                    subst (λ (decr_on_zero : Bool). Holds (record { old = before; alphabet = alphabet; decr_on_zero = decr_on_zero; states = states; count = rows }) [] [] i.out.now)
                     settling.decr_on_zero
                     holds;
                 here = omega (arith, count, row);
               };
-              state = state;
-              takes = takes;
+              state = refl;
+              takes = refl;
               taken = omega arith;
             };
             is = the_rest opens.body (program_within p fits.reads.faultless).body;
@@ -501,14 +501,15 @@ module _ {text before : List ℕ} {states rows : ℕ} {p : Program} (fits : Fits
         }
 
 -- when that is emitted too, the buffer begins with the image
-pub whole_image : {text before after : List ℕ} {states rows : ℕ} {p : Program} {e r : Emitter}
+pub whole_image : {text before after : List ℕ} {states rows end : ℕ} {p : Program} {k : Cursor} {i : MutBor Image} {r : Emitter}
     → Fits text before states rows p
-    → Beginning text before states rows p e
-    → Emits RestTask e r
-    → after ≡ r.out.now
-    → Image before after p r.row
+    → Beginning before states rows p k i.now
+    → Emits RestTask (record { cursor = k; image = i; state = 0; next = 1 }) r
+    → after ≡ r.image.now.out.now
+    → end ≡ r.image.now.row
+    → IsImage before after p end
 unfolding construct
-whole_image {before = before} {states = states} {rows = rows} {p = p} {r = r} fits b emits last =
+whole_image {before = before} {states = states} {rows = rows} {p = p} {r = r} fits b emits last end =
     let h = sheet_of before states rows p in
     let part = program_part p in
     let filled = (emits.emits b.doing).stands.filled in
@@ -527,6 +528,6 @@ whole_image {before = before} {states = states} {rows = rows} {p = p} {r = r} fi
           last
           ∙ filled.holds.bytes
           ∙ ap (λ (l : List ℕ). l ++ drop (row_place h part.rows) before) same
-          ∙ ap (λ (n : ℕ). encode (construct p) ++ drop n before) (sym filled.here);
-      long = filled.here ∙ sym (length-written h part.accepting part.rows) ∙ ap length same;
+          ∙ ap (λ (n : ℕ). encode (construct p) ++ drop n before) (sym (end ∙ filled.here));
+      long = end ∙ filled.here ∙ sym (length-written h part.accepting part.rows) ∙ ap length same;
     }

@@ -18,13 +18,14 @@ use Rattle.rule.specs.Grammar.{Ts, IsStatement, IsStatements}
 use Rattle.rule.proofs.Invert.{Stop, stops, statement_accept, statement_reject, rest_else, rest_also, Closed, closed, rest_brace}
 use Rattle.rule.specs.Inside.Within.{StatementsWithin}
 use Rattle.construction.specs.Construction.{Part, and_then, statement_part, statements_part}
-use Rattle.compiler.specs.Inside.Writing.{Sheet, Holds, Filled, Marks}
+use Rattle.compiler.specs.Inside.Writing.{Sheet, Holds, Filled, Sets}
 use Rattle.compiler.specs.Inside.Seeing.{Here, SeenAs, SeesWord, SeesSign, NotSign, GoesPast, AtWord}
 use Rattle.compiler.specs.Inside.Place.{Place, place_of}
 use Rattle.compiler.specs.Inside.Emission.{At, Doing, Ready, Emits, Emitted, rows_part, Follows, StatementTask, a_statement, HeadedTask, headed, Stops, RestTask, the_rest}
 use Rattle.compiler.specs.declared.Emitter.{Emitter}
 use Rattle.compiler.specs.declared.see.Cursor.{Cursor}
 use Rattle.construction.proofs.Counts.{statements_next}
+use Rattle.compiler.specs.declared.write.Image.{Image}
 use Rattle.std.specs.Borrow.{MutBor}
 use Rattle.compiler.proofs.Tags.{word_tag}
 use Rattle.compiler.proofs.Seeing.{here_some, seen_word, SignAt, sign_at}
@@ -45,8 +46,16 @@ stopping {e} {r} same st =
       passes = subst (λ (t : List ℕ). GoesPast t e.cursor.at 1 r.cursor.at) same st.passes;
       state = st.state;
       takes = st.takes;
-      row = st.row;
+      row = ap (λ (i : MutBor Image). i.now.row) st.image;
     }
+
+-- the image may have got a bit before
+pub stopping_from : {k : Cursor} (i : Image) {j : MutBor Image} {state next : ℕ} {r : Emitter}
+    → Stops (record { cursor = k; image = j; state = state; next = next }) r
+    → j.now.row ≡ i.row
+    → Stopping k.text.now (record { at = k.at; state = state; next = next; row = i.row }) (place_of r)
+stopping_from i st row =
+    record { passes = st.passes; state = st.state; takes = st.takes; row = ap (λ (j : MutBor Image). j.now.row) st.image ∙ row }
 
 -- accept and reject take a state
 abbrev stop_part : List ℕ → ℕ → Part
@@ -97,12 +106,12 @@ module _ {text out : List ℕ} {place : Place} {h : Sheet} {accepting : List ℕ
     pub accept_few : place.next ≤ 128
     accept_few = omega (arith, d.stands.takes, ap (λ (x : Part). x.next) accept_of.is, d.states)
 
-    pub accept_emitted : {after : List ℕ} {r : Place} → Marks out after place.state → Stopping text place r → Emitted text after r h accepting rows us part
+    pub accept_emitted : {after : List ℕ} {r : Place} → Sets out after place.state → Stopping text place r → Emitted text after r h accepting rows us part
     accept_emitted {after} marks st =
         emitted_as accept_of.is
         (stopped accept_stands (p ∷ [])
         (record {
-          holds = subst (λ (n : ℕ). Holds h (accepting ++ (n ∷ [])) rows after) d.stands.state (marks.marks d.stands.filled.holds);
+          holds = subst (λ (n : ℕ). Holds h (accepting ++ (n ∷ [])) rows after) d.stands.state (marks.sets d.stands.filled.holds);
           here = d.stands.filled.here;
         })
         st)
@@ -147,7 +156,7 @@ headed_doing {h = h} {p = p} {next = next} {us = us} {part = part} {end = end} a
 -- whatever statement an emitter stands at, this is its head
 pub record HeadedBy (e : Emitter) (end : ℕ) (head : Token) : Type 0 where
   pub by : {h : Sheet} {accepting : List ℕ} {rows : List Row} {p next : ℕ} {ts us : Ts} {part : Part}
-      → Doing StatementTask e.cursor.text.now e.out.now (place_of e) h accepting rows p next ts us part
+      → Doing StatementTask e.cursor.text.now e.image.now.out.now (place_of e) h accepting rows p next ts us part
       → HeadAt e.cursor.text.now e.cursor.at end head ts
 
 -- the word that is seen
@@ -208,20 +217,20 @@ unnamed seen other =
 
 -- so it is ready behind that word, and what is emitted there is the statement
 module _ {e : Emitter} (k : Cursor) {head : Token} (text : k.text.now ≡ e.cursor.text.now) (needs : Ready StatementTask e) (a : HeadedBy e k.at head) where
-  pub headed_ready : Ready (HeadedTask head) (record { cursor = k; out = e.out; state = e.state; next = e.next; row = e.row })
+  pub headed_ready : Ready (HeadedTask head) (record { cursor = k; image = e.image; state = e.state; next = e.next })
   headed_ready = ready_in text (headed_doing (a.by needs.doing) needs.doing)
 
   -- which is further on in the text
   pub headed_onward : (e.cursor.at < k.at) × (k.at ≤ length e.cursor.text.now)
   headed_onward = let first = a.by needs.doing in (first.behind.onward, first.behind.within)
 
-  pub headed_emits : {r : Emitter} → Emits (HeadedTask head) (record { cursor = k; out = e.out; state = e.state; next = e.next; row = e.row }) r → Emits StatementTask e r × (e.cursor.at < r.cursor.at)
+  pub headed_emits : {r : Emitter} → Emits (HeadedTask head) (record { cursor = k; image = e.image; state = e.state; next = e.next }) r → Emits StatementTask e r × (e.cursor.at < r.cursor.at)
   headed_emits whole = (
     record {
       emits = λ d. emits_in whole text (headed_doing (a.by d) d);
       onward = omega (arith, headed_onward, whole.onward);
       text = whole.text ∙ text;
-      out = whole.out;
+      same = whole.same;
     },
     omega (arith, headed_onward, whole.onward),
   )
@@ -231,18 +240,18 @@ module _ {e : Emitter} (k : Cursor) (text : k.text.now ≡ e.cursor.text.now) (n
   pub rejects_few : e.next ≤ 128
   rejects_few = reject_few (headed_doing (a.by needs.doing) needs.doing)
 
-  pub rejects_emit : {r : Emitter} → Stops (record { cursor = k; out = e.out; state = e.state; next = e.next; row = e.row }) r → Emits StatementTask e r × (e.cursor.at < r.cursor.at)
+  pub rejects_emit : {r : Emitter} → Stops (record { cursor = k; image = e.image; state = e.state; next = e.next }) r → Emits StatementTask e r × (e.cursor.at < r.cursor.at)
   rejects_emit {r} stopping_here =
       let st = stopping text stopping_here in
       let later = reject_onward (headed_doing (a.by needs.doing) needs.doing) st in
       let first = headed_onward k text needs a in (
         record {
           emits = λ {h} {accepting} {rows} {p} {next} {ts} {us} {part} d.
-              subst (λ (o : MutBor (List ℕ)). Emitted e.cursor.text.now o.now (place_of r) h accepting rows us part) (sym stopping_here.out)
+              subst (λ (i : MutBor Image). Emitted e.cursor.text.now i.now.out.now (place_of r) h accepting rows us part) (sym stopping_here.image)
               (reject_emitted (headed_doing (a.by d) d) st);
           onward = omega (arith, first, later);
           text = stopping_here.text ∙ text;
-          out = ap (λ (o : MutBor (List ℕ)). o.ghost_name) stopping_here.out;
+          same = record { name = ap (λ (i : MutBor Image). i.ghost_name) stopping_here.image; out = ap (λ (i : MutBor Image). i.now.out.ghost_name) stopping_here.image };
         },
         omega (arith, first, later),
       )

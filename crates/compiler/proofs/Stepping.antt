@@ -84,7 +84,7 @@ module _ {task : Task} {text out : List ℕ} {place : Place} {h : Sheet} {accept
 -- the cursor has come so far in a statement, whatever part the statement is
 pub record StepsOn (task : Task) (e : Emitter) (from many motion change : ℕ) : Type 0 where
   pub on : {h : Sheet} {accepting : List ℕ} {rows : List Row} {p next : ℕ} {ts us : Ts} {part : Part}
-      → Doing task e.cursor.text.now e.out.now (place_of e) h accepting rows p next ts us part
+      → Doing task e.cursor.text.now e.image.now.out.now (place_of e) h accepting rows p next ts us part
       → Stepping e.cursor.text.now e.cursor.at from many us part p next motion change
 
 -- so a step emits it
@@ -92,7 +92,7 @@ pub step_emits : {task : Task} {e r : Emitter} {k : Cursor} {many motion change 
     → k.text.now ≡ e.cursor.text.now
     → Ready task e
     → StepsOn task e k.at many motion change
-    → Steps (record { cursor = k; out = e.out; state = e.state; next = e.next; row = e.row }) r motion change many
+    → Steps (record { cursor = k; image = e.image; state = e.state; next = e.next }) r motion change many
     → Emits task e r
 step_emits {e = e} {r = r} {k = k} {many = many} same needs stepping steps =
     let passes = subst (λ (t : List ℕ). GoesPast t k.at many r.cursor.at) same steps.passes in
@@ -101,7 +101,7 @@ step_emits {e = e} {r = r} {k = k} {many = many} same needs stepping steps =
       emits = λ d. step_emitted d (stepping.on d) passes steps.state steps.takes steps.writes;
       onward = omega (arith, st.onward, (passes.behind st.rest st.here st.enough).onward);
       text = steps.text ∙ same;
-      out = steps.out;
+      same = steps.same;
     }
 
 -- a statement's task by its parts

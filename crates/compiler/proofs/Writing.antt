@@ -22,7 +22,7 @@ use Rattle.table.proofs.Image.{length-rows, length-field}
 use Rattle.construction.specs.Construction.{with_bits, index_in}
 use Rattle.construction.specs.Compile.{image_room}
 use Rattle.bits.specs.Inside.Over.{over}
-use Rattle.compiler.specs.Inside.Writing.{Sheet, front, accept_bytes, written, row_place, Holds, Filled, Room, Writes, Marks, Heads, Counts}
+use Rattle.compiler.specs.Inside.Writing.{Sheet, front, accept_bytes, written, row_place, Holds, Filled, Room, Writes, Sets, Heads, HasLetters}
 use Rattle.construction.proofs.SetBit.{length_accept}
 
 regroup : (a b c d : List ℕ) → (a ++ (b ++ c)) ++ d ≡ a ++ (b ++ (c ++ d))
@@ -138,10 +138,6 @@ lead_rest : (h : Sheet) (accepting : List ℕ) (rows : List Row) → written h a
 unfolding written front lead back rest
 lead_rest h accepting rows = simp append_assoc
 
-length_lead : (h : Sheet) → length (lead h) ≡ length h.alphabet + letters_place
-unfolding lead
-length_lead h = simp (length-append, length-field) (omega arith)
-
 -- the index of a byte, told from those before a place that are others
 index_passed : (xs : List ℕ) (b n : ℕ) → n ≤ length xs → ((k : ℕ) → k < n → ¬ (get_or xs k 0 ≡ b)) → index_in xs b ≡ n + index_in (drop n xs) b
 unfolding index_in
@@ -216,15 +212,15 @@ bits_more (x ∷ xs) bytes state = bits_more xs (with_bit bytes x) state
 
 -- an accept bit is set in its part of the buffer
 pub marks_bit : (before after part : List ℕ) (letters from many state : ℕ)
-    → Counts before letters
+    → HasLetters before letters
     → from ≡ accepting_place letters
     → many ≡ accepting_bytes
     → part ≡ with_bit (take many (drop from before)) state
     → after ≡ take from before ++ (part ++ drop many (drop from before))
-    → Marks before after state
+    → Sets before after state
 unfolding written
 marks_bit before after part letters from many state count start sixteen part-is after_is =
-    record { marks = λ holds. mark _ _ _ holds (start ∙ ap accepting_place (count.counts holds)) }
+    record { sets = λ holds. mark _ _ _ holds (start ∙ ap accepting_place (count.counts holds)) }
   where
     mark : (h : Sheet) (accepting : List ℕ) (rows : List Row)
         → Holds h accepting rows before

@@ -22,10 +22,27 @@ fn look(sign: Sign, depth: usize, operator: Operator) -> ControlFlow<bool, usize
 {
     match sign {
         Sign::OpenParen => ControlFlow::Continue(depth + 1),
-        Sign::CloseParen if depth == 0 => ControlFlow::Break(false),
-        Sign::CloseParen => ControlFlow::Continue(depth - 1),
-        Sign::Or if depth == 0 => ControlFlow::Break(operator == Operator::Or),
-        Sign::And if depth == 0 && operator == Operator::And => ControlFlow::Break(true),
+        Sign::CloseParen => {
+            if depth == 0 {
+                ControlFlow::Break(false)
+            } else {
+                ControlFlow::Continue(depth - 1)
+            }
+        }
+        Sign::Or => {
+            if depth == 0 {
+                ControlFlow::Break(operator == Operator::Or)
+            } else {
+                ControlFlow::Continue(depth)
+            }
+        }
+        Sign::And => {
+            if depth == 0 && operator == Operator::And {
+                ControlFlow::Break(true)
+            } else {
+                ControlFlow::Continue(depth)
+            }
+        }
         _ => ControlFlow::Continue(depth),
     }
 }

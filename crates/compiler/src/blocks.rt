@@ -3,10 +3,10 @@ ghost use Rattle.std.specs.Prelude.{◌<◌};
 ghost use Rattle.text.specs.Token.{w};
 ghost use Rattle.compiler.specs.Inside.Emission.{Ready, Emits, HeadedTask, EntryTask, StatementTask, RestTask, BodyTask, ElseTask, ArmsTask};
 
-use super::{Emitter, write};
+use super::Emitter;
 use text::{Sign, Word};
 
-impl Emitter<'_> {
+impl Emitter<'_, '_> {
     // A block, and a free row from its exit.
     #[cycle(blocks)]
     fn emit_block(&mut self, to: usize)
@@ -15,7 +15,7 @@ impl Emitter<'_> {
     {
         self.cursor.skip(1);
         self.emit_statements();
-        self.row = write::free(self.out, self.row, self.state, to);
+        self.image.add_free(self.state, to);
         self.state = to;
     }
 
@@ -28,7 +28,7 @@ impl Emitter<'_> {
         if self.cursor.eat_word(Word::Else) {
             self.emit_block(to);
         } else {
-            self.row = write::free(self.out, self.row, self.state, to);
+            self.image.add_free(self.state, to);
             self.state = to;
         }
     }
@@ -56,8 +56,8 @@ impl Emitter<'_> {
         ensures { Emits (EntryTask into over) self.old self.new }
     {
         if self.cursor.eat_word(Word::Choose) {
-            self.row = write::free(self.out, self.row, self.state, into);
-            self.row = write::free(self.out, self.row, self.state, over);
+            self.image.add_free(self.state, into);
+            self.image.add_free(self.state, over);
         } else {
             self.emit_condition(into, over);
         }
@@ -87,7 +87,7 @@ impl Emitter<'_> {
     {
         let from = self.state;
         let into = self.next;
-        self.row = write::free(self.out, self.row, from, into);
+        self.image.add_free(from, into);
         self.state = into;
         self.next = into + 1;
         self.emit_block(to);
@@ -113,7 +113,7 @@ impl Emitter<'_> {
         requires { Ready (HeadedTask (w "accept")) self.old }
         ensures { Emits (HeadedTask (w "accept")) self.old self.new }
     {
-        write::accept(self.out, self.state);
+        self.image.accept(self.state);
         self.emit_stop();
     }
 

@@ -14,19 +14,18 @@ mod write;
 ghost use Rattle.construction.specs.Compile.{Compiles};
 
 use construction::Sizes;
-use reader::Counts;
 use see::Cursor;
 use table::reason::{Reason, Refusal};
+use write::Image;
 
-// The emitter stands in a text and in an image: at the state that the next statement starts at, with the next state to be
-// taken, and at the byte at which the next row is written.
+// The emitter goes over a text and writes an image. It stands at the state that the next statement starts at, with the next
+// state to be taken.
 #[derive(Drop)]
-struct Emitter<'a> {
+struct Emitter<'a, 'o> {
     cursor: Cursor<'a>,
-    out: &'a mut [u8],
+    image: &'a mut Image<'o>,
     state: usize,
     next: usize,
-    row: usize,
 }
 
 // Nothing is written before the text is read to its end, so a refusal leaves every byte as it was.
@@ -45,11 +44,11 @@ pub fn compile(text: &[u8], image: &mut [u8]) -> Result<Sizes, Refusal>
             place: 0,
         });
     }
-    let Counts { states, rows } = reader::read(text)?;
-    let bytes = emit::emit(text, image, states, rows);
+    let counts = reader::read(text)?;
+    let bytes = emit::emit(text, image, counts);
     Ok(Sizes {
         bytes,
-        states,
-        rows,
+        states: counts.states,
+        rows: counts.rows,
     })
 }

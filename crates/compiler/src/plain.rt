@@ -4,7 +4,7 @@ ghost use Rattle.text.specs.Token.{w};
 ghost use Rattle.compiler.specs.Inside.Writing.{Room};
 ghost use Rattle.compiler.specs.Inside.Emission.{step_row, Steps, Stops, Ready, Emits, HeadedTask};
 
-use super::{Emitter, write};
+use super::Emitter;
 use table::{Row, form};
 use text::{Sign, Word};
 
@@ -13,22 +13,21 @@ const UP: u8 = form::NO_CHANGE + 1;
 
 const DOWN: u8 = form::NO_CHANGE - 1;
 
-impl Emitter<'_> {
+impl Emitter<'_, '_> {
     // A row with an effect, to a state that is taken for it, and past the statement's last tokens, so many.
     fn step(&mut self, motion: u8, change: u8, many: usize)
-        requires { Room self.old.out.now self.old.row (λ _. step_row motion change self.old.state self.old.next ∷ []) × (self.old.state ≤ 128) × (self.old.next ≤ 128) }
+        requires { Room self.old.image.now.out.now self.old.image.now.row (λ _. step_row motion change self.old.state self.old.next ∷ []) × (self.old.state ≤ 128) × (self.old.next ≤ 128) }
         ensures { Steps self.old self.new motion change many }
     {
         let to = self.next;
-        let row = Row {
+        self.image.add(Row {
             from: self.state,
             symbol: form::ANY_SYMBOL,
             test: form::EITHER_COUNTER,
             motion,
             change,
             to,
-        };
-        self.row = write::row(self.out, self.row, row);
+        });
         self.cursor.skip(many);
         self.state = to;
         self.next = to + 1;

@@ -1,8 +1,10 @@
 // The settings, which a program begins with: their letters go into the image first, then the header around them.
+ghost use Rattle.std.specs.Prelude.{◌≡◌};
 ghost use Rattle.compiler.specs.Inside.Setting.{Letters, Lists, AtTruth, Tells, Settings, Settles, Emittable, Begins};
 
 use super::see::Cursor;
-use super::{Emitter, write};
+use super::write::{Image, header};
+use reader::Counts;
 use table::form;
 use text::{Sign, Word};
 
@@ -66,22 +68,16 @@ fn emit_settings(cursor: &mut Cursor<'_>, out: &mut [u8]) -> Settled
     }
 }
 
-impl<'a> Emitter<'a> {
-    // Everything before the first statement: what the image has before its rows, and the place behind the `{`.
-    pub fn begin(text: &'a [u8], out: &'a mut [u8], states: usize, rows: usize) -> Emitter<'a>
-        requires { Emittable text.now out.old states rows }
-        ensures { Begins text.now out.entry states rows result }
-    {
-        let mut cursor = Cursor { text, at: 0 };
-        let settled = emit_settings(&mut cursor, out);
-        write::header(out, settled.count, settled.decr_on_zero, states, rows);
-        cursor.skip(5);
-        Emitter {
-            cursor,
-            out,
-            state: 0,
-            next: 1,
-            row: settled.count + form::ROWS_PLACE,
-        }
+// Everything before the first statement: what the image has before its rows, and past the `{`.
+pub fn begin<'o>(cursor: &mut Cursor<'_>, out: &'o mut [u8], counts: Counts) -> Image<'o>
+    requires { Emittable cursor.old.text.now out.old counts.states counts.rows × (cursor.old.at ≡ 0) }
+    ensures { Begins cursor.old cursor.new out.entry counts.states counts.rows result }
+{
+    let settled = emit_settings(cursor, out);
+    header(out, settled.count, settled.decr_on_zero, counts);
+    cursor.skip(5);
+    Image {
+        out,
+        row: settled.count + form::ROWS_PLACE,
     }
 }

@@ -1,29 +1,18 @@
 // The condition walker. A condition is walked together with its sign from the place's state to another, and adds its rows.
 ghost use Rattle.std.specs.Prelude.{◌+◌, ◌≤◌, ◌<◌, ◌≡◌, List, [], ◌∷◌, length, get_or, ℕ};
 ghost use Rattle.construction.specs.Construction.{all_symbols, without, symbol_rows};
-ghost use Rattle.compiler.specs.Inside.Writing.{Held, Room, Writes};
+ghost use Rattle.compiler.specs.Inside.Writing.{Held, Room, Adds};
 ghost use Rattle.compiler.specs.Inside.Operators.{is_or};
 ghost use Rattle.compiler.specs.Inside.Atoms.{counter_rows, read_rows, walked_as, rows_of, Codes};
 ghost use Rattle.compiler.specs.Inside.Emission.{Ready, Emits, AtomTask, WalkTask, joins, joined, takes, Leads, TestTask};
 ghost use Rattle.rule.specs.Grammar.{tightest};
 
+use super::Emitter;
 use super::ahead::Operator;
-use super::{Emitter, write};
+use super::write::Image;
 use atoms::{Atom, AtomRead, Symbol};
 use table::form;
 use text::Sign;
-
-// The code of what `read` is compared with.
-fn code_of(out: &[u8], symbol: Symbol) -> u8
-    requires { Held out.now }
-    ensures { Codes out.now symbol result }
-{
-    match symbol {
-        Symbol::Letter { byte, place: _ } => write::letter(out, byte),
-        Symbol::Lend => form::LEFT_MARK,
-        Symbol::Rend => form::RIGHT_MARK,
-    }
-}
 
 const LEFT_MARK: usize = form::LEFT_MARK as usize;
 
@@ -39,55 +28,6 @@ fn nth(i: usize, letters: usize) -> u8
     }
 }
 
-// The row of one symbol, unless it is the one that is left out.
-fn unless(out: &mut [u8], at: usize, from: usize, to: usize, left_out: u8, symbol: u8) -> usize
-    requires { Room out.old at (λ _. symbol_rows (without left_out (symbol ∷ [])) from to) × (from ≤ 128) × (to ≤ 128) }
-    ensures { Writes out.old out.new at result (λ _. symbol_rows (without left_out (symbol ∷ [])) from to) }
-{
-    if symbol == left_out {
-        at
-    } else {
-        write::test_row(out, at, from, symbol, 2, to)
-    }
-}
-
-// One row for each other symbol.
-fn others(out: &mut [u8], at: usize, from: usize, to: usize, left_out: u8) -> usize
-    requires { Room out.old at (λ alphabet. symbol_rows (without left_out (all_symbols alphabet)) from to) × (from ≤ 128) × (to ≤ 128) }
-    ensures { Writes out.old out.new at result (λ alphabet. symbol_rows (without left_out (all_symbols alphabet)) from to) }
-{
-    let letters = write::letters(out);
-    let mut end = at;
-    for i in 0..letters + 2 {
-        end = unless(out, end, from, to, left_out, nth(i, letters));
-    }
-    end
-}
-
-// The row of a test of the counter.
-fn counter_row(out: &mut [u8], at: usize, from: usize, to: usize, is: bool) -> usize
-    requires { Room out.old at (λ _. counter_rows is from to) × (from ≤ 128) × (to ≤ 128) }
-    ensures { Writes out.old out.new at result (λ _. counter_rows is from to) }
-{
-    if is {
-        write::test_row(out, at, from, form::ANY_SYMBOL, form::ZERO_COUNTER, to)
-    } else {
-        write::test_row(out, at, from, form::ANY_SYMBOL, form::ABOVE_ZERO, to)
-    }
-}
-
-// The rows of a test of what is read.
-fn read_rows(out: &mut [u8], at: usize, from: usize, to: usize, code: u8, is: bool) -> usize
-    requires { Room out.old at (λ alphabet. read_rows alphabet is code from to) × (from ≤ 128) × (to ≤ 128) }
-    ensures { Writes out.old out.new at result (λ alphabet. read_rows alphabet is code from to) }
-{
-    if is {
-        write::test_row(out, at, from, code, form::EITHER_COUNTER, to)
-    } else {
-        others(out, at, from, to, code)
-    }
-}
-
 // Whether a comparison is walked as `==`.
 fn walked_as_is(equal: bool, sign: bool) -> bool
     ensures { result ≡ walked_as equal sign }
@@ -95,17 +35,76 @@ fn walked_as_is(equal: bool, sign: bool) -> bool
     if equal { sign } else { !sign }
 }
 
-// The rows of an atom with its sign.
-fn rows(out: &mut [u8], at: usize, from: usize, to: usize, atom: Atom, sign: bool) -> usize
-    requires { Room out.old at (λ alphabet. rows_of atom sign alphabet from to) × (from ≤ 128) × (to ≤ 128) }
-    ensures { Writes out.old out.new at result (λ alphabet. rows_of atom sign alphabet from to) }
-{
-    match atom {
-        Atom::Read { equal, symbol } => {
-            let code = code_of(out, symbol);
-            read_rows(out, at, from, to, code, walked_as_is(equal, sign))
+impl Image<'_> {
+    // The code of what `read` is compared with.
+    fn code_of(&self, symbol: Symbol) -> u8
+        requires { Held self.now.out.now }
+        ensures { Codes self.now.out.now symbol result }
+    {
+        match symbol {
+            Symbol::Letter { byte, place: _ } => self.letter(byte),
+            Symbol::Lend => form::LEFT_MARK,
+            Symbol::Rend => form::RIGHT_MARK,
         }
-        Atom::Counter { zero } => { counter_row(out, at, from, to, walked_as_is(zero, sign)) }
+    }
+
+    // The row of one symbol, unless it is the one that is left out.
+    fn add_unless(&mut self, from: usize, to: usize, left_out: u8, symbol: u8)
+        requires { Room self.old.out.now self.old.row (λ _. symbol_rows (without left_out (symbol ∷ [])) from to) × (from ≤ 128) × (to ≤ 128) }
+        ensures { Adds self.old self.new (λ _. symbol_rows (without left_out (symbol ∷ [])) from to) }
+    {
+        if symbol != left_out {
+            self.add_test(from, symbol, form::EITHER_COUNTER, to);
+        }
+    }
+
+    // One row for each other symbol.
+    fn add_others(&mut self, from: usize, to: usize, left_out: u8)
+        requires { Room self.old.out.now self.old.row (λ alphabet. symbol_rows (without left_out (all_symbols alphabet)) from to) × (from ≤ 128) × (to ≤ 128) }
+        ensures { Adds self.old self.new (λ alphabet. symbol_rows (without left_out (all_symbols alphabet)) from to) }
+    {
+        let letters = self.letters();
+        for i in 0..letters + 2 {
+            self.add_unless(from, to, left_out, nth(i, letters));
+        }
+    }
+
+    // The row of a test of the counter.
+    fn add_counter(&mut self, from: usize, to: usize, is: bool)
+        requires { Room self.old.out.now self.old.row (λ _. counter_rows is from to) × (from ≤ 128) × (to ≤ 128) }
+        ensures { Adds self.old self.new (λ _. counter_rows is from to) }
+    {
+        if is {
+            self.add_test(from, form::ANY_SYMBOL, form::ZERO_COUNTER, to);
+        } else {
+            self.add_test(from, form::ANY_SYMBOL, form::ABOVE_ZERO, to);
+        }
+    }
+
+    // The rows of a test of what is read.
+    fn add_read(&mut self, from: usize, to: usize, code: u8, is: bool)
+        requires { Room self.old.out.now self.old.row (λ alphabet. read_rows alphabet is code from to) × (from ≤ 128) × (to ≤ 128) }
+        ensures { Adds self.old self.new (λ alphabet. read_rows alphabet is code from to) }
+    {
+        if is {
+            self.add_test(from, code, form::EITHER_COUNTER, to);
+        } else {
+            self.add_others(from, to, code);
+        }
+    }
+
+    // The rows of an atom with its sign.
+    fn add_atom(&mut self, from: usize, to: usize, atom: Atom, sign: bool)
+        requires { Room self.old.out.now self.old.row (λ alphabet. rows_of atom sign alphabet from to) × (from ≤ 128) × (to ≤ 128) }
+        ensures { Adds self.old self.new (λ alphabet. rows_of atom sign alphabet from to) }
+    {
+        match atom {
+            Atom::Read { equal, symbol } => {
+                let code = self.code_of(symbol);
+                self.add_read(from, to, code, walked_as_is(equal, sign));
+            }
+            Atom::Counter { zero } => self.add_counter(from, to, walked_as_is(zero, sign)),
+        }
     }
 }
 
@@ -147,7 +146,7 @@ fn way(state: usize, next: usize, to: usize, taking: bool) -> Course
     }
 }
 
-impl Emitter<'_> {
+impl Emitter<'_, '_> {
     // An atom, as the reader answers it. In a program that is known to have one here it is found.
     fn emit_atom(&mut self, to: usize, sign: bool)
         requires { Ready (AtomTask to sign) self.old }
@@ -156,7 +155,7 @@ impl Emitter<'_> {
         let Ok(AtomRead { atom, at }) = atoms::atom_at(self.cursor.text, self.cursor.at) else {
             unreachable!()
         };
-        self.row = rows(self.out, self.row, self.state, to, atom, sign);
+        self.image.add_atom(self.state, to, atom, sign);
         self.cursor.at = at;
     }
 

@@ -6,8 +6,9 @@ ghost use Rattle.table.specs.RowCode.{row_is};
 ghost use Rattle.construction.specs.Compile.{image_room};
 ghost use Rattle.construction.specs.Construction.{test_row, free, index_in};
 ghost use Rattle.bits.specs.Inside.Over.{over};
-ghost use Rattle.compiler.specs.Inside.Writing.{Held, Room, Writes, Marks, Heads, Indexes, Counts};
+ghost use Rattle.compiler.specs.Inside.Writing.{Held, Room, Adds, Marks, Heads, Indexes, HasLetters};
 
+use reader::Counts;
 use table::{Row, form};
 
 // The two bytes of a number.
@@ -30,14 +31,14 @@ fn put(out: &mut [u8], at: usize, bytes: &[u8])
 const ACCEPTING: u8 = form::ACCEPTING_BYTES as u8;
 
 // Everything before the rows but the letters, which stand already. No state accepts yet.
-pub fn header(out: &mut [u8], count: usize, decr_on_zero: bool, states: usize, rows: usize)
-    requires { (count ≤ 16) × (states ≤ 128) × (rows ≤ 1024) × (image_room ≤ length out.old) }
-    ensures { Heads out.old out.new count decr_on_zero states rows }
+pub fn header(out: &mut [u8], count: usize, decr_on_zero: bool, counts: Counts)
+    requires { (count ≤ 16) × (counts.states ≤ 128) × (counts.rows ≤ 1024) × (image_room ≤ length out.old) }
+    ensures { Heads out.old out.new count decr_on_zero counts.states counts.rows }
 {
     let [_, letters] = two_bytes(count);
     put(out, 0, &[1, 0, 1, form::FIRST_EDITION, 2, 0, letters]);
     let at = count + form::DECR_ON_ZERO_TAG;
-    let [high, low] = two_bytes(states);
+    let [high, low] = two_bytes(counts.states);
     let flag = u8::from(decr_on_zero);
     put(
         out,
@@ -46,54 +47,8 @@ pub fn header(out: &mut [u8], count: usize, decr_on_zero: bool, states: usize, r
     );
     let accepting = count + form::ACCEPTING_PLACE;
     put(out, accepting, &[0; form::ACCEPTING_BYTES]);
-    let [high, low] = two_bytes(form::ROW_BYTES * rows);
+    let [high, low] = two_bytes(form::ROW_BYTES * counts.rows);
     put(out, count + form::ROWS_TAG, &[6, high, low]);
-}
-
-// A row. The next one is written where it ends.
-pub fn row(out: &mut [u8], at: usize, row: Row) -> usize
-    requires { Room out.old at (λ _. row_is row ∷ []) × (row.from ≤ 128) × (row.to ≤ 128) }
-    ensures { Writes out.old out.new at result (λ _. row_is row ∷ []) }
-{
-    let [from_high, from_low] = two_bytes(row.from);
-    let [to_high, to_low] = two_bytes(row.to);
-    let bytes = [
-        from_high, from_low, row.symbol, row.test, row.motion, row.change, to_high, to_low,
-    ];
-    put(out, at, &bytes);
-    at + form::ROW_BYTES
-}
-
-// A row that only tests.
-pub fn test_row(out: &mut [u8], at: usize, from: usize, symbol: u8, test: u8, to: usize) -> usize
-    requires { Room out.old at (λ _. test_row symbol test from to ∷ []) × (from ≤ 128) × (to ≤ 128) }
-    ensures { Writes out.old out.new at result (λ _. test_row symbol test from to ∷ []) }
-{
-    let row = Row {
-        from,
-        symbol,
-        test,
-        motion: form::NO_MOVE,
-        change: form::NO_CHANGE,
-        to,
-    };
-    self::row(out, at, row)
-}
-
-// A row that is free.
-pub fn free(out: &mut [u8], at: usize, from: usize, to: usize) -> usize
-    requires { Room out.old at (λ _. free from to ∷ []) × (from ≤ 128) × (to ≤ 128) }
-    ensures { Writes out.old out.new at result (λ _. free from to ∷ []) }
-{
-    test_row(out, at, from, form::ANY_SYMBOL, form::EITHER_COUNTER, to)
-}
-
-// How many letters the image has.
-pub fn letters(out: &[u8]) -> usize
-    requires { Held out.now }
-    ensures { Counts out.now result }
-{
-    out[form::COUNT_PLACE] as usize
 }
 
 // How many bytes stand before the first that is this one.
@@ -104,21 +59,75 @@ fn find(bytes: &[u8], byte: u8) -> usize
     bytes.iter().position(|b| *b == byte).unwrap_or(bytes.len())
 }
 
-// A letter's index among them.
-pub fn letter(out: &[u8], byte: u8) -> u8
-    requires { Held out.now }
-    ensures { Indexes out.now byte result }
-{
-    let end = letters(out) + form::LETTERS_PLACE;
-    find(&out[form::LETTERS_PLACE..end], byte) as u8
+// An image with its header, and the byte of it at which the next row is written.
+#[derive(Drop)]
+pub struct Image<'a> {
+    pub out: &'a mut [u8],
+    pub row: usize,
 }
 
-// A state's accept bit.
-pub fn accept(out: &mut [u8], state: usize)
-    requires { Held out.old }
-    ensures { Marks out.old out.new state }
-{
-    let from = letters(out) + form::ACCEPTING_PLACE;
-    let to = from + form::ACCEPTING_BYTES;
-    bits::set_bit(&mut out[from..to], state);
+impl Image<'_> {
+    // A row. The next one is written where it ends.
+    pub fn add(&mut self, row: Row)
+        requires { Room self.old.out.now self.old.row (λ _. row_is row ∷ []) × (row.from ≤ 128) × (row.to ≤ 128) }
+        ensures { Adds self.old self.new (λ _. row_is row ∷ []) }
+    {
+        let [from_high, from_low] = two_bytes(row.from);
+        let [to_high, to_low] = two_bytes(row.to);
+        let bytes = [
+            from_high, from_low, row.symbol, row.test, row.motion, row.change, to_high, to_low,
+        ];
+        put(self.out, self.row, &bytes);
+        self.row += form::ROW_BYTES;
+    }
+
+    // A row that only tests.
+    pub fn add_test(&mut self, from: usize, symbol: u8, test: u8, to: usize)
+        requires { Room self.old.out.now self.old.row (λ _. test_row symbol test from to ∷ []) × (from ≤ 128) × (to ≤ 128) }
+        ensures { Adds self.old self.new (λ _. test_row symbol test from to ∷ []) }
+    {
+        self.add(Row {
+            from,
+            symbol,
+            test,
+            motion: form::NO_MOVE,
+            change: form::NO_CHANGE,
+            to,
+        });
+    }
+
+    // A row that is free.
+    pub fn add_free(&mut self, from: usize, to: usize)
+        requires { Room self.old.out.now self.old.row (λ _. free from to ∷ []) × (from ≤ 128) × (to ≤ 128) }
+        ensures { Adds self.old self.new (λ _. free from to ∷ []) }
+    {
+        self.add_test(from, form::ANY_SYMBOL, form::EITHER_COUNTER, to);
+    }
+
+    // How many letters the image has.
+    pub fn letters(&self) -> usize
+        requires { Held self.now.out.now }
+        ensures { HasLetters self.now.out.now result }
+    {
+        self.out[form::COUNT_PLACE] as usize
+    }
+
+    // A letter's index among them.
+    pub fn letter(&self, byte: u8) -> u8
+        requires { Held self.now.out.now }
+        ensures { Indexes self.now.out.now byte result }
+    {
+        let end = self.letters() + form::LETTERS_PLACE;
+        find(&self.out[form::LETTERS_PLACE..end], byte) as u8
+    }
+
+    // A state's accept bit.
+    pub fn accept(&mut self, state: usize)
+        requires { Held self.old.out.now }
+        ensures { Marks self.old self.new state }
+    {
+        let from = self.letters() + form::ACCEPTING_PLACE;
+        let to = from + form::ACCEPTING_BYTES;
+        bits::set_bit(&mut self.out[from..to], state);
+    }
 }

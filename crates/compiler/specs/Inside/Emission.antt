@@ -36,6 +36,8 @@ use Rattle.compiler.specs.Inside.Writing.{Sheet, Filled, Writes}
 use Rattle.compiler.specs.Inside.Seeing.{Here, GoesPast}
 use Rattle.compiler.specs.Inside.Place.{Place, place_of}
 use Rattle.compiler.specs.declared.Emitter.{Emitter}
+use Rattle.compiler.specs.declared.write.Image.{Image}
+use Rattle.std.specs.Borrow.{MutBor}
 use Rattle.compiler.specs.declared.walk.Course.{Course}
 
 -- the emitter stands at a place: so much is written, these states are meant, and these tokens are ahead
@@ -49,6 +51,11 @@ pub record At (text out : List ℕ) (place : Place) (h : Sheet) (accepting : Lis
 -- what there is to emit over an alphabet: from a state on, with this next state to be taken, from these tokens up to those, a part
 abbrev pub Task : Type 1
 Task = List ℕ → ℕ → ℕ → Ts → Ts → Part → Type 0
+
+-- the same image, in the same buffer
+pub record Same (i r : MutBor Image) : Type 0 where
+  pub name : r.ghost_name ≡ i.ghost_name
+  pub out : r.now.out.ghost_name ≡ i.now.out.ghost_name
 
 -- a task that can be done here: there are states and rows enough for it
 pub record Doing (task : Task) (text out : List ℕ) (place : Place) (h : Sheet) (accepting : List ℕ) (rows : List Row) (p next : ℕ) (ts us : Ts) (part : Part) : Type 0 where
@@ -66,7 +73,7 @@ pub record Ready (task : Task) (e : Emitter) : Type 0 where
   pub ts : Ts
   pub us : Ts
   pub part : Part
-  pub doing : Doing task e.cursor.text.now e.out.now (place_of e) sheet accepting rows from next ts us part
+  pub doing : Doing task e.cursor.text.now e.image.now.out.now (place_of e) sheet accepting rows from next ts us part
 
 -- it is done: the text goes on behind it, and its part is written behind what stood there
 pub record Emitted (text out : List ℕ) (place : Place) (h : Sheet) (accepting : List ℕ) (rows : List Row) (us : Ts) (part : Part) : Type 0 where
@@ -75,11 +82,11 @@ pub record Emitted (text out : List ℕ) (place : Place) (h : Sheet) (accepting 
 -- whatever the task was, in the same text and the same buffer
 pub record Emits (task : Task) (e r : Emitter) : Type 0 where
   pub emits : {h : Sheet} {accepting : List ℕ} {rows : List Row} {p next : ℕ} {ts us : Ts} {part : Part}
-      → Doing task e.cursor.text.now e.out.now (place_of e) h accepting rows p next ts us part
-      → Emitted e.cursor.text.now r.out.now (place_of r) h accepting rows us part
+      → Doing task e.cursor.text.now e.image.now.out.now (place_of e) h accepting rows p next ts us part
+      → Emitted e.cursor.text.now r.image.now.out.now (place_of r) h accepting rows us part
   pub onward : e.cursor.at ≤ r.cursor.at
   pub text : r.cursor.text.now ≡ e.cursor.text.now
-  pub out : r.out.ghost_name ≡ e.out.ghost_name
+  pub same : Same e.image r.image
 
 -- rows alone, which leave the state as it is
 abbrev pub rows_part : List Row → ℕ → ℕ → Part
@@ -188,18 +195,17 @@ pub record Steps (e r : Emitter) (motion change many : ℕ) : Type 0 where
   pub passes : GoesPast e.cursor.text.now e.cursor.at many r.cursor.at
   pub state : r.state ≡ e.next
   pub takes : r.next ≡ e.next + 1
-  pub writes : Writes e.out.now r.out.now e.row r.row (λ _. step_row motion change e.state e.next ∷ [])
+  pub writes : Writes e.image.now.out.now r.image.now.out.now e.image.now.row r.image.now.row (λ _. step_row motion change e.state e.next ∷ [])
   pub text : r.cursor.text.now ≡ e.cursor.text.now
-  pub out : r.out.ghost_name ≡ e.out.ghost_name
+  pub same : Same e.image r.image
 
 -- a state is taken without a row
 pub record Stops (e r : Emitter) : Type 0 where
   pub passes : GoesPast e.cursor.text.now e.cursor.at 1 r.cursor.at
   pub state : r.state ≡ e.next
   pub takes : r.next ≡ e.next + 1
-  pub row : r.row ≡ e.row
   pub text : r.cursor.text.now ≡ e.cursor.text.now
-  pub out : r.out ≡ e.out
+  pub image : r.image ≡ e.image
 
 -- what is left of a block
 pub data RestTask (alphabet : List ℕ) (p next : ℕ) : Ts → Ts → Part → Type 0 where

@@ -11,4 +11,4 @@ pub record Place : Type 0 where
   pub row : ℕ
 
 abbrev pub place_of : Emitter → Place
-place_of e = record { at = e.cursor.at; state = e.state; next = e.next; row = e.row }
+place_of e = record { at = e.cursor.at; state = e.state; next = e.next; row = e.image.now.row }

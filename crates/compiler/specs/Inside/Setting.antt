@@ -13,9 +13,8 @@ use Rattle.construction.specs.Compile.{image_room}
 use Rattle.bits.specs.Inside.Over.{over}
 use Rattle.compiler.specs.Inside.Writing.{Sheet}
 use Rattle.compiler.specs.Inside.Seeing.{Here}
-use Rattle.compiler.specs.Inside.Place.{place_of}
 use Rattle.compiler.specs.Inside.Emission.{Doing, RestTask}
-use Rattle.compiler.specs.declared.Emitter.{Emitter}
+use Rattle.compiler.specs.declared.write.Image.{Image}
 use Rattle.compiler.specs.declared.see.Cursor.{Cursor}
 use Rattle.compiler.specs.declared.settings.Settled.{Settled}
 
@@ -107,18 +106,18 @@ sheet_of old states rows p =
     record { old = old; alphabet = letter_bytes p.alphabet; decr_on_zero = p.decr_on_zero; states = states; count = rows }
 
 -- the header is written, and what is left of the outermost block is to be emitted from state 0 on
-pub record Beginning (text before : List ℕ) (states rows : ℕ) (p : Program) (e : Emitter) : Type 0 where
+pub record Beginning (before : List ℕ) (states rows : ℕ) (p : Program) (k : Cursor) (i : Image) : Type 0 where
   pub ts : Ts
-  pub doing : Doing RestTask e.cursor.text.now e.out.now (place_of e) (sheet_of before states rows p) [] [] 0 1 ts [] (program_part p)
+  pub doing : Doing RestTask k.text.now i.out.now (record { at = k.at; state = 0; next = 1; row = i.row }) (sheet_of before states rows p) [] [] 0 1 ts [] (program_part p)
 
-pub record Begins (text : List ℕ) (buffer : MutBor (List ℕ)) (states rows : ℕ) (e : Emitter) : Type 0 where
-  pub begins : {p : Program} → Fits text buffer.now states rows p → Beginning text buffer.now states rows p e
-  pub out : e.out.ghost_name ≡ buffer.ghost_name
+pub record Begins (k r : Cursor) (buffer : MutBor (List ℕ)) (states rows : ℕ) (i : Image) : Type 0 where
+  pub begins : {p : Program} → Fits k.text.now buffer.now states rows p → Beginning buffer.now states rows p r i
+  pub out : i.out.ghost_name ≡ buffer.ghost_name
 
 -- the image stands at the buffer's beginning, and its length is this
-pub record Image (before after : List ℕ) (p : Program) (bytes : ℕ) : Type 0 where
+pub record IsImage (before after : List ℕ) (p : Program) (bytes : ℕ) : Type 0 where
   pub written : after ≡ encode (construct p) ++ drop bytes before
   pub long : bytes ≡ length (encode (construct p))
 
 pub record Images (text before after : List ℕ) (states rows bytes : ℕ) : Type 0 where
-  pub images : {p : Program} → Fits text before states rows p → Image before after p bytes
+  pub images : {p : Program} → Fits text before states rows p → IsImage before after p bytes

@@ -6,6 +6,7 @@ use Rattle.table.specs.Table.{Row}
 use Rattle.table.specs.Image.{two_bytes, field, rows_bytes, flag}
 use Rattle.construction.specs.Construction.{with_bits, index_in}
 use Rattle.construction.specs.Compile.{image_room}
+use Rattle.compiler.specs.declared.write.Image.{Image}
 
 -- what is settled before the first row is written: the buffer as it was, what the header says, and how many rows there will be
 pub record Sheet : Type 0 where
@@ -70,9 +71,19 @@ pub record Writes (before after : List ℕ) (place end : ℕ) (rows : List ℕ �
       → length earlier + length (rows h.alphabet) ≤ h.count
       → Filled h accepting (earlier ++ rows h.alphabet) after end
 
+-- in the same buffer
+pub record Adds (i r : Image) (rows : List ℕ → List Row) : Type 0 where
+  pub writes : Writes i.out.now r.out.now i.row r.row rows
+  pub out : r.out.ghost_name ≡ i.out.ghost_name
+
 -- a state's accept bit is set
-pub record Marks (before after : List ℕ) (state : ℕ) : Type 0 where
-  pub marks : {h : Sheet} {accepting : List ℕ} {rows : List Row} → Holds h accepting rows before → Holds h (accepting ++ (state ∷ [])) rows after
+pub record Sets (before after : List ℕ) (state : ℕ) : Type 0 where
+  pub sets : {h : Sheet} {accepting : List ℕ} {rows : List Row} → Holds h accepting rows before → Holds h (accepting ++ (state ∷ [])) rows after
+
+pub record Marks (i r : Image) (state : ℕ) : Type 0 where
+  pub marks : Sets i.out.now r.out.now state
+  pub row : r.row ≡ i.row
+  pub out : r.out.ghost_name ≡ i.out.ghost_name
 
 -- the header is written around the letters, which stand already
 pub record Heads (before after : List ℕ) (count : ℕ) (decr_on_zero : Bool) (states rows : ℕ) : Type 0 where
@@ -85,5 +96,5 @@ pub record Heads (before after : List ℕ) (count : ℕ) (decr_on_zero : Bool) (
 pub record Indexes (out : List ℕ) (byte index : ℕ) : Type 0 where
   pub finds : {h : Sheet} {accepting : List ℕ} {rows : List Row} → Holds h accepting rows out → index ≡ index_in h.alphabet byte
 
-pub record Counts (out : List ℕ) (many : ℕ) : Type 0 where
+pub record HasLetters (out : List ℕ) (many : ℕ) : Type 0 where
   pub counts : {h : Sheet} {accepting : List ℕ} {rows : List Row} → Holds h accepting rows out → many ≡ length h.alphabet

@@ -5,7 +5,7 @@ use lib.ListN.{length}
 use Rattle.text.specs.declared.Word.TheVariants as Word
 use Rattle.compiler.specs.declared.see.Cursor.{Cursor}
 use Rattle.compiler.proofs.Seeing.{word_in_text, no_word_in_text}
-use Rattle.compiler.proofs.Emission.{ready, ready_in, ready_at, emits_in, emits_at, emits_until}
+use Rattle.compiler.proofs.Emission.{ready, ready_in, ready_at, emits_in, emits_at, emits_until, same_then}
 use Rattle.compiler.proofs.Nesting.{
   settled,
   inside_doing,
@@ -56,21 +56,21 @@ use Rattle.compiler.proofs.Stating.{
 }
 use Rattle.compiler.proofs.Emitter.+blocks.Goals as goal
 
-pub emit_arms-free-self-requires : goal.emit_arms-free-self-requires
-emit_arms-free-self-requires t c = arms_room (settled c.requires.doing)
+pub emit_arms-add_free-requires : goal.emit_arms-add_free-requires
+emit_arms-add_free-requires t c = arms_room (settled c.requires.doing)
 
 pub emit_arms-overflow_add-self : goal.emit_arms-overflow_add-self
 emit_arms-overflow_add-self t c = omega (arith, arms_few (settled c.requires.doing))
 
 pub emit_arms-emit_block-requires : goal.emit_arms-emit_block-requires
 emit_arms-emit_block-requires t c =
-    (omega (arith, c.decreases), ready (arm_doing (settled c.requires.doing) c.free-self.ensures))
+    (omega (arith, c.decreases), ready (arm_doing (settled c.requires.doing) c.add_free.ensures.writes))
 
 pub emit_arms-emit_arms-requires : goal.emit_arms-emit_arms-requires
 emit_arms-emit_arms-requires t c =
     let d = settled c.requires.doing in
     let arm = c.emit_block.ensures in
-    let e = arm.emits (arm_doing d c.free-self.ensures) in
+    let e = arm.emits (arm_doing d c.add_free.ensures.writes) in
     let also = word_in_text arm.text (c.eat_word.ensures.hit c.if-eat_word.true) in
     let text = c.eat_word.ensures.text ∙ arm.text in (
       omega (arith, c.decreases, arm.onward, also-onward d e also, ap length text),
@@ -80,7 +80,7 @@ emit_arms-emit_arms-requires t c =
 pub emit_arms-returns-then-eat_word : goal.emit_arms-returns-then-eat_word
 emit_arms-returns-then-eat_word t c =
     let arm = c.emit_block.ensures in
-    let writes = c.free-self.ensures in
+    let writes = c.add_free.ensures.writes in
     let also = word_in_text arm.text (c.eat_word.ensures.hit c.if-eat_word.true) in
     let text = c.eat_word.ensures.text ∙ arm.text in
     let more = c.emit_arms.ensures in
@@ -93,7 +93,7 @@ emit_arms-returns-then-eat_word t c =
           more_emitted d e also (emits_in more text (more_doing d e also));
       onward = omega (arith, arm.onward, also-onward d₀ e₀ also, more.onward);
       text = more.text ∙ text;
-      out = more.out ∙ arm.out;
+      same = same_then (same_then (record { name = refl; out = c.add_free.ensures.out }) arm.same) more.same;
     }
 
 pub emit_arms-returns-else-eat_word : goal.emit_arms-returns-else-eat_word
@@ -104,10 +104,10 @@ emit_arms-returns-else-eat_word t c =
     (record {
       emits = λ d'.
           let d = settled d' in
-          arms_last d (arm.emits (arm_doing d c.free-self.ensures)) (no_word_in_text arm.text miss.0);
+          arms_last d (arm.emits (arm_doing d c.add_free.ensures.writes)) (no_word_in_text arm.text miss.0);
       onward = arm.onward;
       text = arm.text;
-      out = arm.out;
+      same = same_then (record { name = refl; out = c.add_free.ensures.out }) arm.same;
     })
 
 pub emit_block-emit_statements-requires : goal.emit_block-emit_statements-requires
@@ -118,8 +118,8 @@ emit_block-emit_statements-requires t c =
       ready_in enters.text (inside_doing enters.passes d),
     )
 
-pub emit_block-free-self-requires : goal.emit_block-free-self-requires
-emit_block-free-self-requires t c =
+pub emit_block-add_free-requires : goal.emit_block-add_free-requires
+emit_block-add_free-requires t c =
     let d = c.requires.doing in
     let enters = c.skip.ensures in
     body_room enters.passes d (emits_in c.emit_statements.ensures enters.text (inside_doing enters.passes d))
@@ -129,10 +129,10 @@ emit_block-returns t c =
     let enters = c.skip.ensures in
     let inside = c.emit_statements.ensures in
     record {
-      emits = λ d. body_emitted enters.passes d (emits_in inside enters.text (inside_doing enters.passes d)) c.free-self.ensures;
+      emits = λ d. body_emitted enters.passes d (emits_in inside enters.text (inside_doing enters.passes d)) c.add_free.ensures.writes;
       onward = omega (arith, inside_onward enters.passes c.requires.doing, inside.onward);
       text = inside.text ∙ enters.text;
-      out = inside.out;
+      same = same_then inside.same (record { name = refl; out = c.add_free.ensures.out });
     }
 
 pub emit_branch-overflow_add-self : goal.emit_branch-overflow_add-self
@@ -148,7 +148,7 @@ emit_branch-returns t c =
       emits = λ d. more.emits (branch_doing (settled d));
       onward = more.onward;
       text = more.text;
-      out = more.out;
+      same = more.same;
     }
 
 pub emit_else-emit_block-requires : goal.emit_else-emit_block-requires
@@ -158,8 +158,8 @@ emit_else-emit_block-requires t c =
     let hit = eats.hit c.if-eat_word.true in
     (omega (arith, c.decreases, else_onward d hit, ap length eats.text), ready_in eats.text (else_doing d hit))
 
-pub emit_else-free-self-requires : goal.emit_else-free-self-requires
-emit_else-free-self-requires t c = without_room c.requires.doing (c.eat_word.ensures.miss c.if-eat_word.false).0
+pub emit_else-add_free-requires : goal.emit_else-add_free-requires
+emit_else-add_free-requires t c = without_room c.requires.doing (c.eat_word.ensures.miss c.if-eat_word.false).0
 
 pub emit_else-returns-then-eat_word : goal.emit_else-returns-then-eat_word
 emit_else-returns-then-eat_word t c =
@@ -170,13 +170,13 @@ emit_else-returns-then-eat_word t c =
       emits = λ d. emits_in block eats.text (else_doing d hit);
       onward = omega (arith, else_onward c.requires.doing hit, block.onward);
       text = block.text ∙ eats.text;
-      out = block.out;
+      same = block.same;
     }
 
 pub emit_else-returns-else-eat_word : goal.emit_else-returns-else-eat_word
 emit_else-returns-else-eat_word t c =
     let miss = c.eat_word.ensures.miss c.if-eat_word.false in
-    emits_until miss.1 (record { emits = λ d. without_emitted d miss.0 c.free-self.ensures; onward = omega arith; text = refl; out = refl })
+    emits_until miss.1 (record { emits = λ d. without_emitted d miss.0 c.add_free.ensures.writes; onward = omega arith; text = refl; same = (record { name = refl; out = c.add_free.ensures.out }) })
 
 pub emit_if-overflow_add-yes : goal.emit_if-overflow_add-yes
 emit_if-overflow_add-yes t c = omega (arith, if_few (settled c.requires.doing))
@@ -223,7 +223,7 @@ emit_if-returns t c =
           if_emitted d e f (emits_in last text (if_failing d e f));
       onward = omega (arith, asked.onward, first.onward, last.onward);
       text = last.text ∙ text;
-      out = last.out ∙ first.out ∙ asked.out;
+      same = same_then (same_then asked.same first.same) last.same;
     }
 
 pub emit_statement-word-requires : goal.emit_statement-word-requires
@@ -327,7 +327,7 @@ emit_statements-returns-then-not-eat_sign t c =
           then_emitted d miss.0 e (emits_in last first.text (rest_doing d miss.0 e));
       onward = omega (arith, first.onward, last.onward);
       text = last.text ∙ first.text;
-      out = last.out ∙ first.out;
+      same = same_then first.same last.same;
     }
 
 pub emit_statements-returns-else-not-eat_sign : goal.emit_statements-returns-else-not-eat_sign
@@ -337,7 +337,7 @@ emit_statements-returns-else-not-eat_sign t c =
       emits = λ d. brace_emitted d hit;
       onward = brace_onward c.requires.doing hit;
       text = c.eat_sign.ensures.text;
-      out = refl;
+      same = record { name = refl; out = refl };
     }
 
 pub emit_while-overflow_add-into : goal.emit_while-overflow_add-into
@@ -368,5 +368,5 @@ emit_while-returns t c =
           loop_emitted d e (emits_in block entered.text (loop_body d e));
       onward = omega (arith, entered.onward, block.onward);
       text = block.text ∙ entered.text;
-      out = block.out ∙ entered.out;
+      same = same_then entered.same block.same;
     }

@@ -8,7 +8,7 @@ use Rattle.text.specs.declared.Sign.TheVariants as Sign
 use Rattle.compiler.specs.Inside.Operators.{is_or, Ahead}
 use Rattle.compiler.specs.Inside.Emission.{Leads}
 use Rattle.compiler.proofs.Seeing.{passes_in, eats_from}
-use Rattle.compiler.proofs.Emission.{ready, ready_in, ready_at, emits_in, emits_at, emitted_past, past_onward}
+use Rattle.compiler.proofs.Emission.{ready, ready_in, ready_at, emits_in, emits_at, emitted_past, past_onward, same_then}
 use Rattle.compiler.proofs.Walking.{rank_falls, walk_few, walk_some, sides_here, before_operator, behind_operator, operator_onward, both_sides, side_doing, sign_onward, negation_doing, parens_doing, atom_doing}
 use Rattle.compiler.proofs.Emitter.+walk.Goals as goal
 
@@ -56,14 +56,14 @@ emit_chain-returns-then-operator_ahead t c =
           both_sides g d s e pass (emits_in last text (behind_operator g d s e pass));
       onward = omega (arith, first.onward, operator_onward g d₀ s₀ (first.emits (before_operator g d₀ s₀)) pass, last.onward);
       text = last.text ∙ text;
-      out = last.out ∙ first.out;
+      same = same_then first.same last.same;
     }
 
 pub emit_chain-returns-else-operator_ahead : goal.emit_chain-returns-else-operator_ahead
 emit_chain-returns-else-operator_ahead t c =
     let l = subst (Ahead _ _ _) c.if-operator_ahead.false c.operator_ahead.ensures in
     let side = c.emit_side-else-operator_ahead.ensures in
-    record { emits = λ d. side.emits (side_doing l d); onward = side.onward; text = side.text; out = side.out }
+    record { emits = λ d. side.emits (side_doing l d); onward = side.onward; text = side.text; same = side.same }
 
 pub emit_operand-emit_operand-requires : goal.emit_operand-emit_operand-requires
 emit_operand-emit_operand-requires t c =
@@ -98,7 +98,7 @@ emit_operand-returns-then-eat_sign t c =
       emits = λ d. emits_in inner eats.text (negation_doing hit.sees d refl);
       onward = omega (arith, sign_onward hit.sees c.requires.doing Sign.Not tt refl, inner.onward);
       text = inner.text ∙ eats.text;
-      out = inner.out;
+      same = inner.same;
     }
 
 pub emit_operand-returns-then-eat_sign-2 : goal.emit_operand-returns-then-eat_sign-2
@@ -119,7 +119,7 @@ emit_operand-returns-then-eat_sign-2 t c =
             past_onward (emits_in inner eats.text (parens_doing hit.sees d₀ refl)) pass,
           );
       text = c.skip.ensures.text ∙ text;
-      out = inner.out;
+      same = inner.same;
     }
 
 pub emit_operand-returns-else-eat_sign-2 : goal.emit_operand-returns-else-eat_sign-2
@@ -131,5 +131,5 @@ emit_operand-returns-else-eat_sign-2 t c =
       emits = λ d. atom.emits (atom_doing none.0 closed.0 d);
       onward = atom.onward;
       text = atom.text;
-      out = atom.out;
+      same = atom.same;
     }

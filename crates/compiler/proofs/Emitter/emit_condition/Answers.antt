@@ -2,7 +2,7 @@
 use native.Mathlib.Omega.{arith}
 use mathlib.Core.Path.{◌∙◌}
 use Rattle.compiler.proofs.Seeing.{passes_in}
-use Rattle.compiler.proofs.Emission.{ready_in, emits_in, past_onward}
+use Rattle.compiler.proofs.Emission.{ready_in, emits_in, past_onward, same_then}
 use Rattle.compiler.proofs.Walking.{holding_doing, failing_doing, tests_onward, tests_emitted}
 use Rattle.compiler.proofs.Emitter.emit_condition.Goals as goal
 
@@ -38,5 +38,5 @@ returns c =
                 leaves,
           );
       text = c.skip-2.ensures.text ∙ text;
-      out = failing.out ∙ holding.out;
+      same = same_then holding.same failing.same;
     }

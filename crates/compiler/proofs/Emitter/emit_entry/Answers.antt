@@ -1,24 +1,24 @@
 -- Two free rows, or a condition's.
 use native.Mathlib.Omega.{arith}
-use mathlib.Core.Path.{refl}
+use mathlib.Core.Path.{refl, ◌∙◌}
 use Rattle.compiler.proofs.Emission.{ready, ready_at, emits_at}
 use Rattle.compiler.proofs.Nesting.{entry_asks, choice_onward, choice_room, choice_room_then, choice_emitted}
 use Rattle.compiler.proofs.Emitter.emit_entry.Goals as goal
 
-pub free-self-requires : goal.free-self-requires
-free-self-requires c = choice_room c.requires.doing (c.eat_word.ensures.hit c.if-eat_word.true)
+pub add_free-requires : goal.add_free-requires
+add_free-requires c = choice_room c.requires.doing (c.eat_word.ensures.hit c.if-eat_word.true)
 
-pub free-self-requires-then-eat_word : goal.free-self-requires-then-eat_word
-free-self-requires-then-eat_word c = choice_room_then c.requires.doing (c.eat_word.ensures.hit c.if-eat_word.true) c.free-self.ensures
+pub add_free-requires-then-eat_word : goal.add_free-requires-then-eat_word
+add_free-requires-then-eat_word c = choice_room_then c.requires.doing (c.eat_word.ensures.hit c.if-eat_word.true) c.add_free.ensures.writes
 
 pub returns-then-eat_word : goal.returns-then-eat_word
 returns-then-eat_word c =
     let hit = c.eat_word.ensures.hit c.if-eat_word.true in
     record {
-      emits = λ d. choice_emitted d hit c.free-self.ensures c.free-self-then-eat_word.ensures;
+      emits = λ d. choice_emitted d hit c.add_free.ensures.writes c.add_free-then-eat_word.ensures.writes;
       onward = omega (arith, choice_onward c.requires.doing hit);
       text = c.eat_word.ensures.text;
-      out = refl;
+      same = record { name = refl; out = c.add_free-then-eat_word.ensures.out ∙ c.add_free.ensures.out };
     }
 
 pub emit_condition-requires : goal.emit_condition-requires
@@ -34,5 +34,5 @@ returns-else-eat_word c =
       emits = λ d. asked.emits (entry_asks d miss.0);
       onward = asked.onward;
       text = asked.text;
-      out = asked.out;
+      same = asked.same;
     }

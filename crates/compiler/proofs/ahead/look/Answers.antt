@@ -2,12 +2,10 @@
 use Prim.Native.Nat.{ℕ}
 use mathlib.Core.Path.{◌≡◌, refl, sym, ◌∙◌, ap}
 use mathlib.Core.Bool.{Bool, true, false, not, true≢false}
-use mathlib.Core.List.{[], ◌∷◌}
 use Rattle.std.specs.declared.ops.ControlFlow.{ControlFlow}
-use Rattle.std.specs.declared.ops.ControlFlow.TheVariants.{Break}
+use Rattle.std.specs.declared.ops.ControlFlow.TheVariants.{Break, Continue}
 use Rattle.text.specs.declared.Sign.{Sign}
 use Rattle.compiler.specs.Inside.Operators.{Bracketing, look_at, mark_of, is_or}
-use Rattle.compiler.proofs.Tags.{sign_tags}
 use Rattle.compiler.proofs.Operators.{
   or_told,
   and_told,
@@ -22,7 +20,7 @@ use Rattle.compiler.proofs.Operators.{
   other_mark,
   look_other,
 }
-use borrow.Enum.Refused.{opened}
+use Rattle.compiler.proofs.ahead.look.Goals.{else-depth-eq0-3-via-then-depth-eq0-3+else-eq, else-depth-eq0-3-via-else-depth-eq0-3}
 use Rattle.compiler.proofs.ahead.look.Goals as goal
 
 -- what is found at a sign is found at its mark
@@ -40,32 +38,37 @@ not_true false e = absurd (true≢false (sym e))
 pub returns-in-OpenParen : goal.returns-in-OpenParen
 returns-in-OpenParen c = at_mark c.args.sign _ c.args.depth _ (ap mark_of c.in-OpenParen.is) (look_opening _ _)
 
-pub returns-in-CloseParen : goal.returns-in-CloseParen
-returns-in-CloseParen c = at_mark c.args.sign _ c.args.depth _ (ap mark_of c.in-CloseParen.is) (look_closing _ _ c.if-depth-eq0.true)
+pub returns-then-depth-eq0 : goal.returns-then-depth-eq0
+returns-then-depth-eq0 c = at_mark c.args.sign _ c.args.depth _ (ap mark_of c.in-CloseParen.is) (look_closing _ _ c.if-depth-eq0.true)
 
-pub returns-in-CloseParen-2 : goal.returns-in-CloseParen-2
-returns-in-CloseParen-2 c = at_mark c.args.sign _ c.args.depth _ (ap mark_of c.in-CloseParen-2.is) (look_closed _ _ c.if-depth-eq0.false)
+pub returns-else-depth-eq0 : goal.returns-else-depth-eq0
+returns-else-depth-eq0 c = at_mark c.args.sign _ c.args.depth _ (ap mark_of c.in-CloseParen.is) (look_closed _ _ c.if-depth-eq0.false)
 
-pub returns-in-Or : goal.returns-in-Or
-returns-in-Or c =
+pub returns-then-depth-eq0-2 : goal.returns-then-depth-eq0-2
+returns-then-depth-eq0-2 c =
     let is : c.eq.result ≡ is_or c.args.operator = c.eq.ensures ∙ or_told c.args.operator in
     at_mark c.args.sign _ c.args.depth _ (ap mark_of c.in-Or.is) (ap (λ (b : Bool). Break b) is ∙ look_or _ _ c.if-depth-eq0-2.true)
 
-pub returns-in-And : goal.returns-in-And
-returns-in-And c =
+pub returns-else-depth-eq0-2 : goal.returns-else-depth-eq0-2
+returns-else-depth-eq0-2 c = at_mark c.args.sign _ c.args.depth _ (ap mark_of c.in-Or.is) (look_deep_or _ _ c.if-depth-eq0-2.false)
+
+pub returns-then-eq : goal.returns-then-eq
+returns-then-eq c =
     let and : true ≡ not (is_or c.args.operator) = c.if-eq.ensures ∙ and_told c.args.operator in
     at_mark c.args.sign _ c.args.depth _ (ap mark_of c.in-And.is) (look_and _ _ c.if-depth-eq0-3.true (not_false _ and))
 
+pub returns-else-depth-eq0-3 : goal.returns-else-depth-eq0-3
+returns-else-depth-eq0-3 c =
+    let operator = c.args.operator in
+    let past : Continue c.args.depth ≡ look_at (mark_of Sign.And) c.args.depth (is_or operator) =
+    elim c.else-depth-eq0-3.branch [
+      | else-depth-eq0-3-via-then-depth-eq0-3+else-eq w ↦ look_past_and _ _ w.if-depth-eq0-3.true (not_true _ (w.if-eq.ensures ∙ and_told operator))
+      | else-depth-eq0-3-via-else-depth-eq0-3 w ↦ look_deep_and _ _ w.if-depth-eq0-3.false
+    ]
+    in
+    at_mark c.args.sign _ c.args.depth _ (ap mark_of c.in-And.is) past
+
 pub returns-in_default : goal.returns-in_default
-returns-in_default c = at_mark c.args.sign _ c.args.depth _ (ap mark_of c.in-Or.is) (look_deep_or _ _ c.if-depth-eq0-2.false)
-
-pub returns-in_default-2 : goal.returns-in_default-2
-returns-in_default-2 c =
-    let or : false ≡ not (is_or c.args.operator) = c.if-eq.ensures ∙ and_told c.args.operator in
-    at_mark c.args.sign _ c.args.depth _ (ap mark_of c.in-And.is) (look_past_and _ _ c.if-depth-eq0-3.true (not_true _ or))
-
-pub returns-in_default-3 : goal.returns-in_default-3
-returns-in_default-3 c = at_mark c.args.sign _ c.args.depth _ (ap mark_of c.in-And.is) (look_deep_and _ _ c.if-depth-eq0-3.false)
-
-pub returns-in_default-4 : goal.returns-in_default-4
-returns-in_default-4 c = at_mark c.args.sign _ c.args.depth _ (other_mark (sign_tags (4 ∷ 5 ∷ 11 ∷ 12 ∷ [])) c.args.sign tt tt tt tt (opened c.in_default.in_default-own.keys5)) (look_other _ _)
+returns-in_default c =
+    let none = c.in_default in
+    at_mark c.args.sign _ c.args.depth _ (other_mark c.args.sign none.not-OpenParen none.not-CloseParen none.not-Or none.not-And) (look_other _ _)

@@ -1,15 +1,10 @@
 -- The loop's invariant: the cursor is behind so many tokens as turns were taken.
 use Prim.Native.Nat.{ℕ}
 use native.Mathlib.Omega.{arith}
-use mathlib.Core.Path.{◌≡◌, refl, ap, subst, ◌∙◌}
-use lib.ListN.{drop}
+use mathlib.Core.Path.{ap, ◌∙◌}
 use Rattle.std.specs.Prelude.{unwrap_or, Option}
-use Rattle.compiler.specs.Inside.Seeing.{Reaches}
-use Rattle.compiler.proofs.Seeing.{reach_none, skip_more, end_or}
+use Rattle.compiler.proofs.Seeing.{skip_more, end_or}
 use Rattle.compiler.proofs.see.Cursor.skip.Goals as goal
-
-pub loop-init : goal.loop-init
-loop-init c = (refl, λ ts h fits. reach_none h)
 
 pub loop-preserved : goal.loop-preserved
 loop-preserved c = (
@@ -20,13 +15,3 @@ loop-preserved c = (
       let end = c.unwrap_or-self.ensures ∙ ap (λ (o : Option ℕ). unwrap_or o c.loop.self.at) c.end_of.ensures ∙ end_or c.loop.self.at r in
       skip_more r ts (omega arith) (c.loop.invariant.1 ts h fits) first end,
 )
-
-pub returns : goal.returns
-returns c =
-    let all : c.loop.counter ≡ c.args.many = omega arith in
-    record {
-      text = rw c.loop.invariant.0 refl;
-      passes = record {
-        behind = λ ts here fits. subst (λ (n : ℕ). Reaches c.args.self.now.text.now c.args.self.now.at n c.loop.self.at (drop n ts)) all (c.loop.invariant.1 ts here fits);
-      };
-    }

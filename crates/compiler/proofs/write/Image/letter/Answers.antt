@@ -1,7 +1,7 @@
 -- The letters stand behind the header's first bytes, as many as its count says.
 use native.Mathlib.Omega.{arith}
 use Rattle.compiler.proofs.Writing.{held_long, held_index}
-use Rattle.compiler.proofs.write.letter.Goals as goal
+use Rattle.compiler.proofs.write.Image.letter.Goals as goal
 
 pub slice_bounds-find-end : goal.slice_bounds-find-end
 slice_bounds-find-end c =
