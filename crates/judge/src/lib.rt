@@ -9,7 +9,7 @@ ghost use Rattle.table.specs.Fields.{table_of};
 ghost use Rattle.bits.specs.Tells.{Tells};
 ghost use Rattle.judgement.specs.Judge.{Answers};
 ghost use Rattle.judge.specs.Inside.Inner.{AcceptsIn, verdict_of};
-ghost use Rattle.judge.specs.Inside.Methods.{Undecided, Decided, Searched};
+ghost use Rattle.judge.specs.Inside.Methods.{ToDecide, HasDecided, HasRun};
 ghost use Rattle.judge.specs.Inside.Search.{MarkedAccepts};
 
 use judgement::answer::{Judged, Verdict};
@@ -53,8 +53,8 @@ fn verdict(yes: bool, over: bool) -> Verdict
 
 // The verdict and the count that the marks show after a search.
 fn shown(search: &Search, marks: &[u8; MARK_BYTES], over: bool) -> Judged
-    requires { Searched search.now marks.now over }
-    ensures { Decided search.now marks.now result }
+    requires { HasRun search.now marks.now over }
+    ensures { HasDecided search.now marks.now result }
 {
     let yes = accepted(search.image, marks);
     Judged {
@@ -65,8 +65,8 @@ fn shown(search: &Search, marks: &[u8; MARK_BYTES], over: bool) -> Judged
 
 // The verdict and the count on what is judged, by the rows of a source.
 fn decide(search: &Search, marks: &mut [u8; MARK_BYTES]) -> Judged
-    requires { Undecided search.now }
-    ensures { Decided search.now marks.new result }
+    requires { ToDecide search.now }
+    ensures { HasDecided search.now marks.new result }
 {
     bits::clear(marks);
     let over = search.run(marks);

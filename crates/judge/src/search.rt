@@ -4,7 +4,7 @@ ghost use Rattle.std.specs.Prelude.{◌≡◌, ◌&&◌};
 ghost use Rattle.table.specs.Fields.{table_of};
 ghost use Rattle.cells.specs.Code.{symbol_is};
 ghost use Rattle.machine.specs.Step.{symbol_fits, counter_fits};
-ghost use Rattle.judge.specs.Inside.Methods.{Here, Leaves, Followed, Waiting, Expanded, Unmarked, Searched};
+ghost use Rattle.judge.specs.Inside.Methods.{ToVisit, ToFollow, Visited, ToExpand, HasExpanded, ToRun, HasRun};
 
 use super::pending::{Hints, MARK_BYTES, SITUATIONS};
 use cells::Symbol;
@@ -50,8 +50,8 @@ impl Search<'_> {
         marks: &mut [u8; MARK_BYTES],
         hints: &mut Hints,
     ) -> bool
-        requires { Leaves self.now marks.old over shown }
-        ensures { Followed self.now marks.old marks.new result shown }
+        requires { ToFollow self.now marks.old over shown }
+        ensures { Visited self.now marks.old marks.new result shown }
     {
         let i = shown.i;
         let row = rows::row_here(self.rows, shown.at);
@@ -77,8 +77,8 @@ impl Search<'_> {
         marks: &mut [u8; MARK_BYTES],
         hints: &mut Hints,
     ) -> bool
-        requires { Here self.now marks.old over shown }
-        ensures { Followed self.now marks.old marks.new result shown }
+        requires { ToVisit self.now marks.old over shown }
+        ensures { Visited self.now marks.old marks.new result shown }
     {
         if rows::leaves(self.rows, shown.at, shown.i / 32 / 64) {
             return self.follow(shown, over, marks, hints);
@@ -88,8 +88,8 @@ impl Search<'_> {
 
     // Follows every row that a source shows for situation i, which is pending.
     fn expand(&self, i: usize, over: bool, marks: &mut [u8; MARK_BYTES], hints: &mut Hints) -> bool
-        requires { Waiting self.now marks.old over i }
-        ensures { Expanded self.now marks.old marks.new result i }
+        requires { ToExpand self.now marks.old over i }
+        ensures { HasExpanded self.now marks.old marks.new result i }
     {
         bits::clear_bit(marks, i + SITUATIONS);
         let range = rows_of(self.source, self.rows, i / 32 / 64);
@@ -112,8 +112,8 @@ impl Search<'_> {
 
     // Marks all that is reached. The answer is whether a step above the limit was met.
     pub fn run(&self, marks: &mut [u8; MARK_BYTES]) -> bool
-        requires { Unmarked self.now marks.old }
-        ensures { Searched self.now marks.new result }
+        requires { ToRun self.now marks.old }
+        ensures { HasRun self.now marks.new result }
     {
         let mut hints = Hints::none();
         hints.mark(0, marks);
