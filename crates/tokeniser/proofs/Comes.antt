@@ -10,7 +10,8 @@ use Rattle.text.specs.Tokens.{Placed, ◌at◌, Ending, ends, broken, Tokens}
 use Rattle.text.specs.Tokens as Of
 use Rattle.text.specs.First.{Next, Begins, FirstToken}
 use Rattle.tokeniser.specs.Inside.Tokenising.{Skips, StepRight}
-use Rattle.tokeniser.specs.declared.steps.Step.{Step}
+use Rattle.std.specs.declared.ops.ControlFlow.{ControlFlow}
+use Rattle.std.specs.declared.ops.ControlFlow.TheVariants.{Continue}
 use Rattle.text.specs.declared.Token.{Token}
 use Rattle.text.specs.Inside.Scan.{scan_from}
 use Rattle.text.proofs.Front.{Found, Bad}
@@ -38,7 +39,7 @@ skips_first {text} {p} {n} s f =
     }
 
 -- what a step answers
-pub step_blank : (text : List ℕ) (p n : ℕ) {s : Step} → StepRight text p s → s ≡ Step.Blank n → Skips text p n
+pub step_blank : (text : List ℕ) (p n : ℕ) {s : ControlFlow Token ℕ} → StepRight text p s → s ≡ Continue n → Skips text p n
 step_blank text p n h e = subst (StepRight text p) e h
 
 bad_tokens : (p : ℕ) (bytes : List ℕ) → Bad bytes → Tokens p bytes [] (broken p)

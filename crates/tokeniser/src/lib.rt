@@ -9,7 +9,8 @@ mod signs; // the signs
 mod steps; // what stands at a byte
 mod words; // the reserved words
 
-use steps::{Step, step_at};
+use std::ops::ControlFlow;
+use steps::step_at;
 use text::Token;
 
 // What comes first from a byte on, past white space and comments.
@@ -19,12 +20,8 @@ pub fn token_at(text: &[u8], from: usize) -> Token
     let mut at = from;
     while at < text.len() {
         match step_at(text, at) {
-            Step::Blank { next } => {
-                at = next;
-            }
-            Step::Token(token) => {
-                return token;
-            }
+            ControlFlow::Continue(next) => at = next,
+            ControlFlow::Break(token) => return token,
         }
     }
     Token::End { at }

@@ -11,28 +11,23 @@ use super::ends::end_of;
 use super::kinds::{Kind, in_comment, in_word, is_digit, kind_of};
 use super::signs::sign_of;
 use super::words::word_of;
+use std::ops::ControlFlow;
 use text::Token;
 
-// What stands at a byte. Both cases carry something, and neither is nothing or a failure, so this is no Option and no Result.
-#[derive(Clone, Copy, Debug, PartialEq, Eq)]
-pub enum Step {
-    Blank { next: usize },
-    Token(Token),
-}
-
-pub fn step_at(text: &[u8], at: usize) -> Step
+// On behind white space or a comment, or a token at which that ends.
+pub fn step_at(text: &[u8], at: usize) -> ControlFlow<Token, usize>
     requires { at < length text.now }
     ensures { StepRight text.now at result }
 {
     match kind_of(text[at]) {
-        Kind::Digit => Step::Token(number_at(text, at)),
-        Kind::Alphabetic => Step::Token(word_at(text, at)),
-        Kind::Underscore => Step::Token(word_at(text, at)),
-        Kind::Quote => Step::Token(letter_at(text, at)),
-        Kind::White => Step::Blank { next: at + 1 },
+        Kind::Digit => ControlFlow::Break(number_at(text, at)),
+        Kind::Alphabetic => ControlFlow::Break(word_at(text, at)),
+        Kind::Underscore => ControlFlow::Break(word_at(text, at)),
+        Kind::Quote => ControlFlow::Break(letter_at(text, at)),
+        Kind::White => ControlFlow::Continue(at + 1),
         Kind::Slash => slash_at(text, at),
-        Kind::Sign => Step::Token(sign_at(text, at)),
-        Kind::Other => Step::Token(Token::Broken { at }),
+        Kind::Sign => ControlFlow::Break(sign_at(text, at)),
+        Kind::Other => ControlFlow::Break(Token::Broken { at }),
     }
 }
 
@@ -80,16 +75,14 @@ fn letter_at(text: &[u8], at: usize) -> Token
 }
 
 // A slash begins a comment, or nothing.
-fn slash_at(text: &[u8], at: usize) -> Step
+fn slash_at(text: &[u8], at: usize) -> ControlFlow<Token, usize>
     requires { (at < length text.now) × (get_or text.now at 0 ≡ slash) }
     ensures { StepRight text.now at result }
 {
     if bits::byte_at(text, at + 1) != b'/' {
-        return Step::Token(Token::Broken { at });
+        return ControlFlow::Break(Token::Broken { at });
     }
-    Step::Blank {
-        next: end_of(text, at + 2, in_comment),
-    }
+    ControlFlow::Continue(end_of(text, at + 2, in_comment))
 }
 
 // The longer sign comes first. Past the text's end stands a 0, which no sign has and no comment begins with.

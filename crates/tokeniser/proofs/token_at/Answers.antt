@@ -5,7 +5,7 @@ use Rattle.tokeniser.proofs.token_at.Goals as goal
 pub loop-at-preserved : goal.loop-at-preserved
 loop-at-preserved c = λ r f.
     c.loop-at.invariant r
-    (skips_first (step_blank c.args.text.now c.loop-at.at _ c.step_at.ensures c.in-Blank.is) f)
+    (skips_first (step_blank c.args.text.now c.loop-at.at _ c.step_at.ensures c.in-Continue.is) f)
 
 pub returns : goal.returns
 returns c =

@@ -4,9 +4,11 @@ use mathlib.Core.List.{List, [], ◌∷◌}
 use Rattle.bits.specs.Byte.{is_digit, is_alphabetic}
 use Rattle.text.specs.Token.{quote, signs}
 use Rattle.text.specs.declared.Sign.{Sign}
+use Rattle.text.specs.declared.Token.{Token}
 use Rattle.text.specs.Tokens.{is_white, slash, line_feed, Blank}
 use Rattle.text.specs.First.{written, FirstToken}
-use Rattle.tokeniser.specs.declared.steps.Step.{Step}
+use Rattle.std.specs.declared.ops.ControlFlow.{ControlFlow}
+use Rattle.std.specs.declared.ops.ControlFlow.TheVariants.{Continue, Break}
 use Rattle.tokeniser.specs.declared.kinds.Kind.{Kind}
 
 -- some of these lists has this byte first
@@ -55,6 +57,6 @@ pub record Skips (text : List ℕ) (place next : ℕ) : Type 0 where
   pub blank : Blank (drop place text) (next - place) (drop next text)
 
 -- what stands at this place of the text
-abbrev pub StepRight : List ℕ → ℕ → Step → Type 0
-StepRight text place (Step.Blank next) = Skips text place next
-StepRight text place (Step.Token r) = FirstToken text place r
+abbrev pub StepRight : List ℕ → ℕ → ControlFlow Token ℕ → Type 0
+StepRight text place (Continue next) = Skips text place next
+StepRight text place (Break r) = FirstToken text place r
