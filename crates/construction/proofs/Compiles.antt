@@ -6,14 +6,11 @@ use mathlib.Core.Logic.{inl, inr}
 use mathlib.Core.List.{List, ◌++◌}
 use lib.ListN.{length, drop}
 use Rattle.table.specs.Image.{encode}
-use mathlib.Core.Bool.{cond}
-use lib.Dec.{eqb}
 use Rattle.std.specs.Prelude.{Result, Ok, Err}
 use Rattle.table.specs.Refusal.{First, number_of}
-use Rattle.table.specs.declared.reason.Reason.{Reason}
-use Rattle.table.specs.declared.reason.Reason.TheVariants as Named
 use Rattle.table.specs.declared.reason.Refusal.{Refusal}
 use Rattle.table.proofs.Image.{length-encode}
+use Rattle.table.proofs.Reasons.{refusal_once}
 use Rattle.table.proofs.Refusal.{Single, Gives, Each, single_at_zero, first_once, first_has}
 use Rattle.rule.specs.Tree.{Program}
 use Rattle.rule.proofs.Letters.{program_letter}
@@ -26,49 +23,6 @@ use Rattle.construction.specs.Compile.{image_room, reasons, answer_number, Compi
 use Rattle.construction.specs.declared.Sizes.{Sizes}
 use Rattle.construction.proofs.SetBit.{length_accept}
 
--- the reason with a number
-named : ℕ → Reason
-named n =
-    cond (eqb n 1) Named.LongText
-    (cond (eqb n 2) Named.ShortImage
-    (cond (eqb n 3) Named.NoToken
-    (cond (eqb n 4) Named.Misplaced
-    (cond (eqb n 5) Named.Alphabet
-    (cond (eqb n 6) Named.OutsideAlphabet
-    (cond (eqb n 7) Named.Number
-    (cond (eqb n 8) Named.Depth
-    (cond (eqb n 9) Named.Arms
-    (cond (eqb n 10) Named.States
-    (cond (eqb n 11) Named.Rows
-    (cond (eqb n 21) Named.Malformed
-    (cond (eqb n 22) Named.LongWord
-    (cond (eqb n 23) Named.OtherLetter
-    (cond (eqb n 24) Named.HighLimit
-    Named.MarkBytes))))))))))))))
-
-number_of_named : (r : Reason) → named (number_of r) ≡ r
-unfolding named
-number_of_named Named.LongText = refl
-number_of_named Named.ShortImage = refl
-number_of_named Named.NoToken = refl
-number_of_named Named.Misplaced = refl
-number_of_named Named.Alphabet = refl
-number_of_named Named.OutsideAlphabet = refl
-number_of_named Named.Number = refl
-number_of_named Named.Depth = refl
-number_of_named Named.Arms = refl
-number_of_named Named.States = refl
-number_of_named Named.Rows = refl
-number_of_named Named.Malformed = refl
-number_of_named Named.LongWord = refl
-number_of_named Named.OtherLetter = refl
-number_of_named Named.HighLimit = refl
-number_of_named Named.MarkBytes = refl
-
--- reasons with the same number are equal
-pub number_of_once : {a b : Reason} → number_of a ≡ number_of b → a ≡ b
-number_of_once {a} {b} same = sym (number_of_named a) ∙ ap named same ∙ number_of_named b
-
 module _ {text before after after' : List ℕ} where
   refused_once : {r s : Refusal}
       → Refused text before after (number_of r.reason) r.place
@@ -77,8 +31,7 @@ module _ {text before after after' : List ℕ} where
   refused_once a b =
       let single : Each Single (reasons text before) = (single_at_zero, (single_at_zero, single_text text _ _)) in
       let same = first_once (reasons text before) single a.first b.first in
-      let reason = number_of_once same.0 in
-      (a.unchanged ∙ sym b.unchanged, λ i. record { reason = reason i; place = same.1 i })
+      (a.unchanged ∙ sym b.unchanged, refusal_once same.0 same.1)
 
   compiled_once : {s s' : Sizes}
       → Compiled text before after s.bytes s.states s.rows

@@ -11,5 +11,4 @@ pub mod Whole
 pub mod Tested
 pub mod Atoms
 pub mod Peek
-pub mod Reasons
 pub mod Promise

@@ -17,7 +17,7 @@ use Rattle.rule.proofs.Outcomes.{refused_fault, taken_reads, reads_no-fault, rea
 use Rattle.rule.proofs.Reasons.{single_text, no_text}
 use Rattle.reader.specs.Reading.{reasons, Whole, ReadsTo}
 use Rattle.reader.specs.declared.answers.Counts.{Counts}
-use Rattle.reader.proofs.Reasons.{refusal_once}
+use Rattle.table.proofs.Reasons.{refusal_once}
 
 module _ (text : List ℕ) where
   pub too_long : 4096 < length text → ReadsTo text (Err (record { reason = Reason.LongText; place = 0 }))
@@ -95,4 +95,4 @@ module _ (text : List ℕ) where
   reading_once (Err r) (Ok c) h g = absurd (first_has (λ i j. ⊥) (reasons text) (no_reason g.right) h.right)
   reading_once (Err r) (Err s) h g =
       let once = first_once (reasons text) single_reasons h.right g.right in
-      ap (λ (r : Refusal). Err r) (refusal_once r s once.0 once.1)
+      ap (λ (r : Refusal). Err r) (refusal_once once.0 once.1)

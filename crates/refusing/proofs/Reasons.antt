@@ -16,7 +16,7 @@ use Rattle.table.proofs.Encoded.{image_table}
 use Rattle.table.proofs.Refusal.{first_once, first_has, first-none}
 use Rattle.checker.specs.Check.{Checked, well_formed, malformed, answer_of, CheckedRight, Answers}
 use Rattle.judgement.specs.Reasons.{FirstOutside, input_reasons}
-use Rattle.judgement.proofs.Answered.{refusal_once}
+use Rattle.table.proofs.Reasons.{refusal_once}
 use Rattle.judgement.proofs.Reasons.{same_letters, input_single, input_none, input_numbered, input_place}
 use Rattle.refusing.specs.Asking.{Asks}
 use Rattle.refusing.specs.Inside.Letters.{OtherAt}

@@ -27,10 +27,9 @@ use Rattle.rule.proofs.Machine.Steps.{begin, eat}
 use Rattle.rule.proofs.Machine.Complete.{built}
 use Rattle.rule.proofs.Outcomes.{built_program, refused_fault}
 use Rattle.construction.specs.Construction.{construct}
-use Rattle.std.specs.Prelude.{Ok, Err, cond, eqb}
+use Rattle.std.specs.Prelude.{Ok, Err}
 use Rattle.table.specs.Refusal.{number_of}
-use Rattle.table.specs.declared.reason.Reason.{Reason as Named}
-use Rattle.table.specs.declared.reason.Reason.TheVariants as Named
+use Rattle.table.proofs.Reasons.{named}
 use Rattle.construction.specs.Compile.{Compilable, reasons, image_room}
 use Rattle.line.specs.CompileLine.{compile_line}
 use Rattle.samples.specs.Sample as Sample
@@ -141,20 +140,6 @@ refuse text n p = do
   short ← at_most (length text) 4096
   h ← fault_of text (outcome text) refl n p
   some (first_refusal text n p short h)
-
--- the reason with a number of the compiler
-abbrev named : ℕ → Named
-named n =
-    cond (eqb n 1) Named.LongText
-    (cond (eqb n 2) Named.ShortImage
-    (cond (eqb n 3) Named.NoToken
-    (cond (eqb n 4) Named.Misplaced
-    (cond (eqb n 5) Named.Alphabet
-    (cond (eqb n 6) Named.OutsideAlphabet
-    (cond (eqb n 7) Named.Number
-    (cond (eqb n 8) Named.Depth
-    (cond (eqb n 9) Named.Arms
-    (cond (eqb n 10) Named.States Named.Rows)))))))))
 
 -- a line, and a table of lines
 abbrev pub prove : (x : Sample) → Option (Holds x)

@@ -7,5 +7,6 @@ pub mod Encoded
 pub mod Places
 pub mod Reading
 pub mod Refusal
+pub mod Reasons
 pub mod RowCode
 pub mod Showing
