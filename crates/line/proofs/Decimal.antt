@@ -1,14 +1,14 @@
--- A number's digits as a line has them are those that the library writes, and they are at most 20.
-use Prim.Native.Nat.{ℕ, zero, suc, ◌+◌, ◌/◌, ◌%◌, ◌^◌, ◌≤◌, ◌<◌}
+-- A number's digits as a line has them: how they are found from the last one on, and that they are at most 20.
+use Prim.Native.Nat.{ℕ, zero, suc, ◌+◌, ◌-◌, ◌/◌, ◌%◌, ◌^◌, ◌≤◌, ◌<◌}
 use native.Mathlib.Omega.{arith}
-use mathlib.Core.Path.{◌≡◌, sym, ◌∙◌, ap}
+use mathlib.Core.Path.{◌≡◌, refl, sym, ◌∙◌, ap, subst}
 use mathlib.Core.Bool.{Bool, true, false}
-use mathlib.Core.List.{List, [], ◌∷◌, ◌++◌, append_assoc, append-nil}
-use lib.ListN.{length}
+use mathlib.Core.List.{List, [], ◌∷◌}
+use lib.ListN.{length, drop, set}
 use lib.Dec.{ltb}
 use borrow.Author.Tests.{lt-ltb, le-ltb}
-use Rattle.std.specs.Fmt as Fmt
-use Rattle.std.proofs.lemmas.Fmt.{decimal_by_steps}
+use Rattle.std.proofs.Common.{add-one}
+use Rattle.std.proofs.lemmas.Grind.{drop-set_at}
 use Rattle.line.specs.Decimal.{digits, decimal}
 
 -- the digits of a number: the last one, or one behind those of a tenth
@@ -22,26 +22,29 @@ unfolding digits
 digits_more most n rest high =
     ap (λ (t : Bool). elim t [ true ↦ (n + 48) ∷ rest | false ↦ digits most (n / 10) ((n % 10 + 48) ∷ rest) ]) (le-ltb n 10 high)
 
--- these digits, and those that the library writes, which are found from the last one on too
-AsWritten : ℕ → List ℕ → Type 0
-AsWritten n written = (most : ℕ) (rest : List ℕ) → n < 10 ^ suc most → digits (suc most) n rest ≡ written ++ rest
+-- a tenth of a number of two digits and more has a digit fewer
+pub less_tenth : (k n : ℕ) → 10 ≤ n → n < 10 ^ k → (1 < k) × (n / 10 < 10 ^ (k - 1))
+less_tenth zero n high low = absurd (omega arith)
+less_tenth (suc zero) n high low = absurd (omega arith)
+less_tenth (suc (suc k)) n high low =
+    let one : suc (suc k) - 1 ≡ suc k = omega arith in
+    (omega arith, subst (λ (m : ℕ). n / 10 < 10 ^ m) (sym one) (omega arith))
 
-as_one : (n : ℕ) → n < 10 → AsWritten n ((48 + n) ∷ [])
-unfolding AsWritten
-as_one n low most rest h = digits_last most n rest low ∙ ap (λ (d : ℕ). d ∷ rest) (omega arith)
+-- digits that are written from the end of a buffer on: one more, and the first
+pub digits_step : (start k n : ℕ) (buffer : List ℕ) → start ≡ suc k → k < length buffer → 10 ≤ n
+    → digits k (n / 10) (drop k (set buffer k (n % 10 + 48))) ≡ digits start n (drop start buffer)
+digits_step start k n buffer is within high =
+    ap (digits k (n / 10)) (drop-set_at buffer k k (n % 10 + 48) refl within ∙ ap (λ (m : ℕ). (n % 10 + 48) ∷ drop m buffer) (add-one k))
+    ∙ sym (digits_more k n (drop (suc k) buffer) high)
+    ∙ ap (λ (m : ℕ). digits m n (drop m buffer)) (sym is)
 
-as_more : (n : ℕ) (written : List ℕ) → 10 ≤ n → AsWritten (n / 10) written → AsWritten n (written ++ ((48 + n % 10) ∷ []))
-unfolding AsWritten
-as_more n written high tenth zero rest h = absurd (omega arith)
-as_more n written high tenth (suc most) rest h =
-    digits_more (suc most) n rest high
-    ∙ tenth most ((n % 10 + 48) ∷ rest) (omega arith)
-    ∙ ap (λ (d : ℕ). written ++ (d ∷ rest)) (omega arith)
-    ∙ sym (append_assoc written ((48 + n % 10) ∷ []) rest)
-
-pub as_written : (n : ℕ) → n < 2 ^ 64 → Fmt.decimal n ≡ decimal n
-unfolding AsWritten
-as_written n small = sym (decimal_by_steps AsWritten as_one as_more n small 19 [] (omega arith) ∙ append-nil (Fmt.decimal n))
+pub digits_first : (start k n : ℕ) (buffer : List ℕ) → start ≡ suc k → k < length buffer → n < 10
+    → drop k (set buffer k (n + 48)) ≡ digits start n (drop start buffer)
+digits_first start k n buffer is within low =
+    drop-set_at buffer k k (n + 48) refl within
+    ∙ ap (λ (m : ℕ). (n + 48) ∷ drop m buffer) (add-one k)
+    ∙ sym (digits_last k n (drop (suc k) buffer) low)
+    ∙ ap (λ (m : ℕ). digits m n (drop m buffer)) (sym is)
 
 -- they are at most 20
 digits_short : (most n : ℕ) (rest : List ℕ) → length (digits most n rest) ≤ most + length rest
