@@ -4,12 +4,12 @@ use native.Mathlib.Omega.{arith}
 use native.Mathlib.Numerals.{add-one}
 use native.Mathlib.Decide.{dec_lt}
 use mathlib.Core.Path.{◌≡◌, refl, sym, ◌∙◌, ap, subst}
-use mathlib.Core.Bool.{Bool, not}
+use mathlib.Core.Bool.{Bool}
 use mathlib.Core.List.{List, [], ◌∷◌, cons≢nil}
 use Rattle.std.specs.Prelude.{unwrap_or, Option, Some, None}
 use lib.ListN.{length, get_or, drop, length-drop, drop_of_length-le}
 use lib.Seq.{drop-drop, drop-cons}
-use lib.Dec.{T, leb, leb→le, eqb, T_not}
+use lib.Dec.{T, leb, leb→le}
 use Rattle.bits.specs.Byte.{is_digit, is_letter}
 use Rattle.bits.proofs.Tests.{and_left, and_right, and_of}
 use Rattle.text.specs.Token as Spec
@@ -25,7 +25,6 @@ use Rattle.tokeniser.proofs.Comes.{end_first}
 use Rattle.text.proofs.Once.{comes}
 use Rattle.text.proofs.Follow.{place_of, first_onward}
 use Rattle.rule.specs.Limits.{value_from}
-use Rattle.compiler.proofs.Tags.{word_tag, sign_tag}
 use Rattle.compiler.specs.Inside.Seeing.{Here, Behind, WordFirst, the_word, SignFirst, the_sign, end_of, Reaches, GoesPast, Skips, SeesWord, SeesSign, NotWord, NotSign, EatsSign, Digits}
 use Rattle.compiler.specs.declared.see.Cursor.{Cursor}
 
@@ -294,12 +293,6 @@ pub record WordAt (text : List ℕ) (from end : ℕ) (y : Word) (ts : List Place
   pub which : IsWord y bytes
   pub is : ts ≡ (word bytes at place) ∷ rest
   pub behind : Behind text from end rest
-
-pub no_semicolon : (y : Sign) → T (not (eqb (sign_tag y) 18)) → Sign.Semicolon ≡ y → ⊥
-no_semicolon y t e = T_not (eqb (sign_tag y) 18) t (subst (λ (n : ℕ). T (eqb n 18)) (ap sign_tag e) tt)
-
-pub no_other : (y : Word) → T (not (eqb (word_tag y) 20)) → Word.Other ≡ y → ⊥
-no_other y t e = T_not (eqb (word_tag y) 20) t (subst (λ (n : ℕ). T (eqb n 20)) (ap word_tag e) tt)
 
 pub sign_at : {text : List ℕ} {from e : ℕ} {ts : List Placed} {x : Sign} → SignFirst text from e x ts → SignAt text from e x ts
 sign_at (the_sign {p = p} {us = us} l h) =
