@@ -278,14 +278,14 @@ pub seen_sign : {text : List ℕ} {from p e b q : ℕ} {l : List ℕ} {us : List
     → g ≡ y
 seen_sign y (seen_a_sign {x = g} h k) is = sign_same g y (sym h ∙ is)
 
--- a sign that is seen, but for the semicolon, stands there
+-- a sign that is seen stands there
 pub record SignAt (text : List ℕ) (from end : ℕ) (y : Sign) (ts : List Placed) : Type 0 where
   pub place : ℕ
   pub rest : List Placed
   pub is : ts ≡ (sign (written y) at place) ∷ rest
   pub behind : Behind text from end rest
 
--- and so does a reserved word
+-- and so does a word
 pub record WordAt (text : List ℕ) (from end : ℕ) (y : Word) (ts : List Placed) : Type 0 where
   pub place : ℕ
   pub rest : List Placed
