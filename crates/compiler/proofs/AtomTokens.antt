@@ -2,9 +2,9 @@
 use Prim.Native.Nat.{ℕ, ◌<◌}
 use native.Mathlib.Omega.{arith}
 use mathlib.Core.Path.{◌≡◌, refl, sym, ◌∙◌, ap, subst}
-use mathlib.Core.Bool.{Bool, true, false, not, ◌&&◌}
+use mathlib.Core.Bool.{Bool, true, false, ◌&&◌}
 use mathlib.Core.List.{List, [], ◌∷◌, cons≢nil}
-use lib.Dec.{T, leb, eqb}
+use lib.Dec.{leb}
 use Rattle.text.specs.Token.{word, number, letter, sign}
 use Rattle.text.specs.Tokens.{Placed, ◌at◌, Ending}
 use Rattle.text.specs.First.{part, IsWord, written, Begins}
@@ -48,8 +48,7 @@ use Rattle.atoms.specs.declared.Atom.{Atom}
 use Rattle.construction.specs.Construction.{symbol_code, atom_rows}
 use Rattle.compiler.specs.Inside.Seeing.{Here, Behind}
 use Rattle.compiler.specs.Inside.Atoms.{read_rows, code_of, rows_of}
-use Rattle.compiler.proofs.Tags.{word_tag, sign_tag}
-use Rattle.compiler.proofs.Seeing.{word_in, sign_in, end_from, first_seen, seen_behind, seen_word, seen_sign, no_other, no_semicolon}
+use Rattle.compiler.proofs.Seeing.{end_from, first_seen, seen_behind, seen_word, seen_sign, word_stands, sign_stands}
 
 -- the first of some tokens: its place, its byte
 abbrev place_at : List Placed → ℕ
@@ -70,23 +69,7 @@ digits_at ((number l at p) ∷ ts) = l
 digits_at ((letter b at p) ∷ ts) = []
 digits_at ((sign l at p) ∷ ts) = []
 
--- the answer where a reserved word stands, a sign but the semicolon, a letter, a number
-word_token : (t : Token) (y : Word) → T (not (eqb (word_tag y) 20)) → word_in t ≡ y → (p : ℕ) × (q : ℕ) × (t ≡ Token.Word p q y)
-word_token (Token.Word p q x) y n e = (p, q, ap (λ (z : Word). Token.Word p q z) e)
-word_token (Token.Number p q) y n e = absurd (no_other y n e)
-word_token (Token.Letter p q b) y n e = absurd (no_other y n e)
-word_token (Token.Sign p q x) y n e = absurd (no_other y n e)
-word_token (Token.End p) y n e = absurd (no_other y n e)
-word_token (Token.Broken p) y n e = absurd (no_other y n e)
-
-sign_token : (t : Token) (y : Sign) → T (not (eqb (sign_tag y) 18)) → sign_in t ≡ y → (p : ℕ) × (q : ℕ) × (t ≡ Token.Sign p q y)
-sign_token (Token.Word p q x) y n e = absurd (no_semicolon y n e)
-sign_token (Token.Number p q) y n e = absurd (no_semicolon y n e)
-sign_token (Token.Letter p q b) y n e = absurd (no_semicolon y n e)
-sign_token (Token.Sign p q x) y n e = (p, q, ap (λ (z : Sign). Token.Sign p q z) e)
-sign_token (Token.End p) y n e = absurd (no_semicolon y n e)
-sign_token (Token.Broken p) y n e = absurd (no_semicolon y n e)
-
+-- the answer where a letter stands, a number
 module _ (text : List ℕ) (us : Ts) (e : Ending) where
   letter_token_lem : (b p : ℕ) (t : Token) → Begins text ((letter b at p) ∷ us) e t → (q : ℕ) × (t ≡ Token.Letter p q b)
   letter_token_lem b p (Token.Word o q x) n = absurd (let same = n.next.first in cc)
@@ -124,22 +107,22 @@ module _ {text : List ℕ} {from : ℕ} {us : Ts} {x : Placed} {Says : Token →
 
 module _ {text : List ℕ} {from p : ℕ} {us : Ts} {Says : Token → Type 0} (n : Next text from Says) where
   told_word : {l : List ℕ} (y : Word)
-      → T (not (eqb (word_tag y) 20))
       → IsWord y l
       → Here text from ((word l at p) ∷ us)
       → (o : ℕ) × (q : ℕ) × Told text from us Says (Token.Word o q y)
-  told_word y reserved is h =
-      let (o, q, e) = word_token n.token y reserved (seen_word y (first_seen n.token n.first refl _ h) is) in
-      (o, q, told n h (Token.Word o q y) e)
+  told_word y is h =
+      let (o, q, x, e) = word_stands n.first h in
+      let same = seen_word y (first_seen (Token.Word o q x) n.first e _ h) is in
+      (o, q, told n h (Token.Word o q y) (e ∙ ap (λ (z : Word). Token.Word o q z) same))
 
   told_sign : {l : List ℕ} (y : Sign)
-      → T (not (eqb (sign_tag y) 18))
       → l ≡ written y
       → Here text from ((sign l at p) ∷ us)
       → (o : ℕ) × (q : ℕ) × Told text from us Says (Token.Sign o q y)
-  told_sign y some is h =
-      let (o, q, e) = sign_token n.token y some (seen_sign y (first_seen n.token n.first refl _ h) is) in
-      (o, q, told n h (Token.Sign o q y) e)
+  told_sign y is h =
+      let (o, q, x, e) = sign_stands n.first h in
+      let same = seen_sign y (first_seen (Token.Sign o q x) n.first e _ h) is in
+      (o, q, told n h (Token.Sign o q y) (e ∙ ap (λ (z : Sign). Token.Sign o q z) same))
 
   told_letter : {b : ℕ} → Here text from ((letter b at p) ∷ us) → (q : ℕ) × Told text from us Says (Token.Letter p q b)
   told_letter {b} h =
@@ -207,10 +190,10 @@ object_found equal n h Grammar.a_letter =
     let (q, t) = told_letter n h in
     record { end = q; is = letter_says t.says; onward = t.behind.onward; here = t.behind.here }
 object_found equal n h Grammar.lend =
-    let (o, q, t) = told_word n Word.Lend tt refl h in
+    let (o, q, t) = told_word n Word.Lend refl h in
     record { end = q; is = lend_says t.says; onward = t.behind.onward; here = t.behind.here }
 object_found equal n h Grammar.rend =
-    let (o, q, t) = told_word n Word.Rend tt refl h in
+    let (o, q, t) = told_word n Word.Rend refl h in
     record { end = q; is = rend_says t.says; onward = t.behind.onward; here = t.behind.here }
 
 zero_is_read : (equal : Bool) (digits : List ℕ) (p q : ℕ)
@@ -247,20 +230,20 @@ pub atom_found : (alphabet : List ℕ) {text : List ℕ} {from k : ℕ} {ts us :
     → FoundAt text from us (atom_of a) r
 unfolding AtomWithin
 atom_found alphabet x h (Grammar.read_is d) within =
-    let (o, q, t) = told_word x.right Word.Read tt refl h in
-    let (o', q', u) = told_sign (read_says t.says) Sign.Equals tt refl t.behind.here in
+    let (o, q, t) = told_word x.right Word.Read refl h in
+    let (o', q', u) = told_sign (read_says t.says) Sign.Equals refl t.behind.here in
     further t.behind u.behind (object_found true (same_says ObjectSays u.says) u.behind.here d)
 atom_found alphabet x h (Grammar.read_is_not d) within =
-    let (o, q, t) = told_word x.right Word.Read tt refl h in
-    let (o', q', u) = told_sign (read_says t.says) Sign.Differs tt refl t.behind.here in
+    let (o, q, t) = told_word x.right Word.Read refl h in
+    let (o', q', u) = told_sign (read_says t.says) Sign.Differs refl t.behind.here in
     further t.behind u.behind (object_found false (differs_says ObjectSays u.says) u.behind.here d)
 atom_found alphabet x h Grammar.counter_is within =
-    let (o, q, t) = told_word x.right Word.C tt refl h in
-    let (o', q', u) = told_sign (c_says t.says) Sign.Equals tt refl t.behind.here in
+    let (o, q, t) = told_word x.right Word.C refl h in
+    let (o', q', u) = told_sign (c_says t.says) Sign.Equals refl t.behind.here in
     further t.behind u.behind (number_found true (same_says (NumeralSays _) u.says) u.behind.here within)
 atom_found alphabet x h Grammar.counter_is_not within =
-    let (o, q, t) = told_word x.right Word.C tt refl h in
-    let (o', q', u) = told_sign (c_says t.says) Sign.Differs tt refl t.behind.here in
+    let (o, q, t) = told_word x.right Word.C refl h in
+    let (o', q', u) = told_sign (c_says t.says) Sign.Differs refl t.behind.here in
     further t.behind u.behind (number_found false (differs_says (NumeralSays _) u.says) u.behind.here within)
 
 -- the rows by the answer are the atom's

@@ -172,7 +172,7 @@ module _ {text out : List ℕ} {place : Place} {to : ℕ} {h : Sheet} {accepting
 
     module _ {end : ℕ} (sees : SeesWord text arm.at end Word.Also) where
       abbrev also_here : HeadAt text arm.at end (w "also") arms_here.behind
-      also_here = head_at Word.Also _ (λ bytes which. which) tt (sees.sees.stands arms_here.behind e.stands.here) refl
+      also_here = head_at _ (λ bytes which. which) (sees.stands arms_here.behind e.stands.here)
 
       abbrev more_here : MoreArms to h.alphabet place.state first_arm_lem also_here.rest us part
       more_here = more_arms_lem (subst (λ (xs : Ts). ArmsEnd to h.alphabet place.state first_arm_lem xs us part) also_here.is arms_here.end)

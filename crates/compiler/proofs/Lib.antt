@@ -1,6 +1,5 @@
 -- Laws of what the emitter writes and sees, and that compiling has one answer.
 pub mod Writing
-pub mod Tags
 pub mod Seeing
 pub mod Operators
 pub mod Emission

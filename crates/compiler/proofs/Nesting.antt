@@ -3,15 +3,12 @@
 use Prim.Native.Nat.{ℕ, ◌+◌, ◌≤◌, ◌<◌}
 use native.Mathlib.Omega.{arith}
 use mathlib.Core.Path.{◌≡◌, refl, sym, ◌∙◌, ap, subst, subst₂}
-use mathlib.Core.Bool.{not}
 use mathlib.Core.List.{List, [], ◌∷◌, ◌++◌, append-nil, append_assoc}
 use lib.ListN.{length, drop}
-use lib.Dec.{T, eqb}
 use Rattle.text.specs.Token.{Token, word, w, s}
 use Rattle.text.specs.Tokens.{◌at◌}
 use Rattle.text.specs.First.{IsWord}
 use Rattle.text.specs.declared.Word.{Word}
-use Rattle.text.specs.declared.Sign.{Sign}
 use Rattle.table.specs.Table.{Row}
 use Rattle.rule.specs.Tree.{Statement, Rest}
 use Rattle.rule.specs.Grammar.{Ts, IsRest, nothing, else, block}
@@ -20,11 +17,10 @@ use Rattle.rule.proofs.Invert as Invert
 use Rattle.rule.specs.Inside.Within.{StatementWithin, RestWithin}
 use Rattle.construction.specs.Construction.{free, Part, test, if_part, loop_part, and_then, statement_part, rest_part, statements_part}
 use Rattle.compiler.specs.Inside.Writing.{Sheet, Filled, Room, Writes}
-use Rattle.compiler.specs.Inside.Seeing.{Here, Behind, SeenAs, SeesWord, NotWord, GoesPast}
+use Rattle.compiler.specs.Inside.Seeing.{Here, Behind, WordFirst, SeesWord, NotWord, GoesPast}
 use Rattle.compiler.specs.Inside.Emission.{At, Task, Doing, Emitted, rows_part, TestTask, tests, EntryTask, chooses, asks, Follows, HeadedTask, RestTask, the_rest, closed_part, BodyTask, a_body, ElseTask, an_else}
 use Rattle.compiler.specs.Inside.Place.{Place}
 use Rattle.construction.proofs.Counts.{test_next, rest_next, statements_next}
-use Rattle.compiler.proofs.Tags.{word_tag}
 use Rattle.compiler.proofs.Seeing.{here_some, word_at}
 use Rattle.compiler.proofs.Emission.{
   at_room,
@@ -144,14 +140,12 @@ pub record HeadAt (text : List ℕ) (from end : ℕ) (head : Token) (ts : Ts) : 
   pub is : ts ≡ (head at place) ∷ rest
   pub behind : Behind text from end rest
 
-pub head_at : {text : List ℕ} {from p e b : ℕ} {ts : Ts} {x : Word} {g : Sign} (y : Word) (l : List ℕ)
-    → ((bytes : List ℕ) → IsWord y bytes → bytes ≡ l)
-    → T (not (eqb (word_tag y) 20))
-    → SeenAs text from ts x g b p e
-    → x ≡ y
+pub head_at : {text : List ℕ} {from e : ℕ} {ts : Ts} {x : Word} (l : List ℕ)
+    → ((bytes : List ℕ) → IsWord x bytes → bytes ≡ l)
+    → WordFirst text from e x ts
     → HeadAt text from e (word l) ts
-head_at y l spelt t seen is =
-    let a = word_at y t seen is in
+head_at l spelt first =
+    let a = word_at first in
     record {
       place = a.place;
       rest = a.rest;
@@ -261,7 +255,7 @@ module _ {text out : List ℕ} {place : Place} {to : ℕ}
     (d : Doing (ElseTask to) text out place h accepting rows p next ts us part) where
   module _ {end : ℕ} (sees : SeesWord text place.at end Word.Else) where
     abbrev else_here : HeadAt text place.at end (w "else") ts
-    else_here = head_at Word.Else _ (λ bytes which. which) tt (sees.sees.stands ts d.stands.here) refl
+    else_here = head_at _ (λ bytes which. which) (sees.stands ts d.stands.here)
 
     pub else_doing : Doing (BodyTask to) text out (record { at = end; state = place.state; next = place.next; row = place.row }) h accepting rows p next else_here.rest us part
     else_doing =
@@ -424,7 +418,7 @@ module _ {text out : List ℕ} {place : Place} {into over : ℕ}
 
   module _ {end : ℕ} (sees : SeesWord text place.at end Word.Choose) where
     abbrev choose_here : HeadAt text place.at end (w "choose") ts
-    choose_here = head_at Word.Choose _ (λ bytes which. which) tt (sees.sees.stands ts d.stands.here) refl
+    choose_here = head_at _ (λ bytes which. which) (sees.stands ts d.stands.here)
 
     abbrev choice_here : Choice into over p next choose_here.rest us part
     choice_here = choice (subst (λ (xs : Ts). EntryTask into over h.alphabet p next xs us part) choose_here.is d.is)

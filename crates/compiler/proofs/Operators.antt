@@ -39,8 +39,7 @@ use Rattle.rule.specs.Grammar.{
   tight,
   either,
 }
-use Rattle.compiler.specs.Inside.Seeing as Seen
-use Rattle.compiler.specs.Inside.Seeing.{Here, SeenAs}
+use Rattle.compiler.specs.Inside.Seeing.{Here}
 use Rattle.compiler.specs.Inside.Operators.{is_or, Bracketing, opening, closing, and, or, other, look_at, mark_of, marked, onward, ahead}
 use Rattle.compiler.specs.Inside.Emission.{Closes, by_paren, by_or, joins, joined}
 use Rattle.std.specs.declared.ops.ControlFlow.{ControlFlow}
@@ -52,7 +51,7 @@ use Rattle.std.specs.Prelude.{Some, None}
 use Rattle.text.specs.First.{FirstToken}
 use Rattle.text.specs.declared.Token.{Token}
 use Rattle.compiler.specs.Inside.Seeing.{end_of}
-use Rattle.compiler.proofs.Seeing.{sign_in, seen_behind, first_seen, first_falls, end_some, end_none}
+use Rattle.compiler.proofs.Seeing.{SeenAs, seen_a_word, seen_a_number, seen_a_letter, seen_a_sign, seen_nothing, sign_in, seen_behind, first_seen, first_falls, end_some, end_none}
 
 -- what the code finds at a sign, by the sign and the depth
 module _ (depth : ℕ) (sought : Bool) where
@@ -156,10 +155,10 @@ written_mark Sign.Semicolon = refl
 pub seen_mark : {text : List ℕ} {from p e b q : ℕ} {t : Spec.Token} {us : List Placed} {x : Word} {g : Sign}
     → SeenAs text from ((t at q) ∷ us) x g b p e
     → mark_of g ≡ marked t
-seen_mark (Seen.a_word w h) = refl
-seen_mark (Seen.a_number n d o h) = refl
-seen_mark (Seen.a_letter b h) = refl
-seen_mark (Seen.a_sign {x = x} e h) = written_mark x ∙ ap (λ (l : List ℕ). marked (sign l)) (sym e)
+seen_mark (seen_a_word w h) = refl
+seen_mark (seen_a_number n d o h) = refl
+seen_mark (seen_a_letter b h) = refl
+seen_mark (seen_a_sign {x = x} e h) = written_mark x ∙ ap (λ (l : List ℕ). marked (sign l)) (sym e)
 
 -- where an operator inside a condition is not the one that comes next: below the outermost level, or where it binds tighter
 abbrev hidden : Binding → Bool → ℕ → Bool
@@ -277,11 +276,11 @@ module _ (sought : Bool) (depth : ℕ) where
       → e ≤ place
       → ahead sought depth rest ≡ false
   unfolding ahead
-  seen_out (Seen.a_word k h) none = absurd (omega (arith, h.onward))
-  seen_out (Seen.a_number n d o h) none = absurd (omega (arith, h.onward))
-  seen_out (Seen.a_letter b h) none = absurd (omega (arith, h.onward))
-  seen_out (Seen.a_sign k h) none = absurd (omega (arith, h.onward))
-  seen_out Seen.nothing none = refl
+  seen_out (seen_a_word k h) none = absurd (omega (arith, h.onward))
+  seen_out (seen_a_number n d o h) none = absurd (omega (arith, h.onward))
+  seen_out (seen_a_letter b h) none = absurd (omega (arith, h.onward))
+  seen_out (seen_a_sign k h) none = absurd (omega (arith, h.onward))
+  seen_out seen_nothing none = refl
 
   -- a token more
   look_token : {text : List ℕ} {us : List Placed} {place p e b q : ℕ} {t : Spec.Token} {x : Word} {g : Sign} {r : ControlFlow Bool ℕ}
@@ -298,7 +297,7 @@ module _ (sought : Bool) (depth : ℕ) where
       → place < e
       → look_at (mark_of g) depth sought ≡ Break found
       → ahead sought depth rest ≡ found
-  seen_answer [] found Seen.nothing some is = absurd (omega arith)
+  seen_answer [] found seen_nothing some is = absurd (omega arith)
   seen_answer ((t at q) ∷ us) found seen some is = look_token seen is
 
   seen_on : {text : List ℕ} {place p e b : ℕ} {x : Word} {g : Sign} (all rest : List Placed) (more : ℕ)
@@ -307,7 +306,7 @@ module _ (sought : Bool) (depth : ℕ) where
       → place < e
       → look_at (mark_of g) depth sought ≡ Continue more
       → Looking text sought all e more
-  seen_on all [] more same Seen.nothing some is = absurd (omega arith)
+  seen_on all [] more same seen_nothing some is = absurd (omega arith)
   seen_on all ((t at q) ∷ us) more same seen some is =
       record { rest = us; here = (seen_behind seen).here; same = same ∙ look_token seen is }
 

@@ -4,12 +4,12 @@ use native.Mathlib.Omega.{arith}
 use native.Mathlib.Numerals.{add-one}
 use native.Mathlib.Decide.{dec_lt}
 use mathlib.Core.Path.{◌≡◌, refl, sym, ◌∙◌, ap, subst}
-use mathlib.Core.Bool.{Bool, not}
+use mathlib.Core.Bool.{Bool}
 use mathlib.Core.List.{List, [], ◌∷◌, cons≢nil}
 use Rattle.std.specs.Prelude.{unwrap_or, Option, Some, None}
 use lib.ListN.{length, get_or, drop, length-drop, drop_of_length-le}
 use lib.Seq.{drop-drop, drop-cons}
-use lib.Dec.{T, leb, leb→le, eqb, T_not}
+use lib.Dec.{T, leb, leb→le}
 use Rattle.bits.specs.Byte.{is_digit, is_letter}
 use Rattle.bits.proofs.Tests.{and_left, and_right, and_of}
 use Rattle.text.specs.Token as Spec
@@ -25,10 +25,30 @@ use Rattle.tokeniser.proofs.Comes.{end_first}
 use Rattle.text.proofs.Once.{comes}
 use Rattle.text.proofs.Follow.{place_of, first_onward}
 use Rattle.rule.specs.Limits.{value_from}
-use Rattle.compiler.specs.Inside.Seeing as Seen
-use Rattle.compiler.proofs.Tags.{word_tag, sign_tag}
-use Rattle.compiler.specs.Inside.Seeing.{Here, Behind, SeenAs, nothing, Sees, end_of, Reaches, GoesPast, Skips, SeesWord, SeesSign, NotWord, NotSign, EatsSign, Digits}
+use Rattle.compiler.specs.Inside.Seeing.{Here, Behind, WordFirst, the_word, SignFirst, the_sign, end_of, Reaches, GoesPast, Skips, SeesWord, SeesSign, NotWord, NotSign, EatsSign, Digits}
 use Rattle.compiler.specs.declared.see.Cursor.{Cursor}
+
+-- how the first of some tokens is seen: which word it is, or Other; which sign, or the semicolon; which letter, or 0; where it starts and ends
+pub data SeenAs (text : List ℕ) (from : ℕ) : List Placed → Word → Sign → ℕ → ℕ → ℕ → Type 0 where
+  seen_a_word : {l : List ℕ} {p e : ℕ} {us : List Placed} {x : Word}
+      → IsWord x l
+      → Behind text from e us
+      → SeenAs text from ((word l at p) ∷ us) x Sign.Semicolon 0 p e
+  seen_a_number : {n : List ℕ} {p e : ℕ} {us : List Placed}
+      → n ≡ part text p e
+      → T (every is_digit n)
+      → p ≤ e
+      → Behind text from e us
+      → SeenAs text from ((number n at p) ∷ us) Word.Other Sign.Semicolon 0 p e
+  seen_a_letter : {b p e : ℕ} {us : List Placed}
+      → T (is_letter b)
+      → Behind text from e us
+      → SeenAs text from ((letter b at p) ∷ us) Word.Other Sign.Semicolon b p e
+  seen_a_sign : {l : List ℕ} {p e : ℕ} {us : List Placed} {x : Sign}
+      → l ≡ written x
+      → Behind text from e us
+      → SeenAs text from ((sign l at p) ∷ us) Word.Other x 0 p e
+  seen_nothing : {p : ℕ} → SeenAs text from [] Word.Other Sign.Semicolon 0 p from
 
 -- what each answer shows
 abbrev pub word_in : Token → Word
@@ -82,28 +102,22 @@ module _ {text : List ℕ} {from : ℕ} where
 
   begins_seen : (ts : List Placed) (e : Ending) (r : Token) → from ≤ place_of r → Begins text ts e r → SeenBy text from ts r
   begins_seen ts e (Token.Word p q x) on b =
-      subst (λ (us : List Placed). SeenBy text from us (Token.Word p q x)) (sym b.next.first) (Seen.a_word b.which (behind on b.next))
+      subst (λ (us : List Placed). SeenBy text from us (Token.Word p q x)) (sym b.next.first) (seen_a_word b.which (behind on b.next))
   begins_seen ts e (Token.Number p q) on b =
       subst (λ (us : List Placed). SeenBy text from us (Token.Number p q)) (sym b.first)
-      (Seen.a_number refl (digits_spelt b.bytes) (omega (arith, b.some)) (behind on b))
+      (seen_a_number refl (digits_spelt b.bytes) (omega (arith, b.some)) (behind on b))
   begins_seen ts e (Token.Letter p q c) on b =
-      subst (λ (us : List Placed). SeenBy text from us (Token.Letter p q c)) (sym b.first) (Seen.a_letter (letter_spelt b.bytes) (behind on b))
+      subst (λ (us : List Placed). SeenBy text from us (Token.Letter p q c)) (sym b.first) (seen_a_letter (letter_spelt b.bytes) (behind on b))
   begins_seen ts e (Token.Sign p q x) on b =
-      subst (λ (us : List Placed). SeenBy text from us (Token.Sign p q x)) (sym b.first) (Seen.a_sign refl (behind on b))
-  begins_seen ts e (Token.End p) on b = subst (λ (us : List Placed). SeenBy text from us (Token.End p)) (sym b.none) nothing
-  begins_seen ts e (Token.Broken p) on b = subst (λ (us : List Placed). SeenBy text from us (Token.Broken p)) (sym b.none) nothing
+      subst (λ (us : List Placed). SeenBy text from us (Token.Sign p q x)) (sym b.first) (seen_a_sign refl (behind on b))
+  begins_seen ts e (Token.End p) on b = subst (λ (us : List Placed). SeenBy text from us (Token.End p)) (sym b.none) seen_nothing
+  begins_seen ts e (Token.Broken p) on b = subst (λ (us : List Placed). SeenBy text from us (Token.Broken p)) (sym b.none) seen_nothing
 
 -- what comes first is seen so, whatever tokens stand there
 pub first_seen : {text : List ℕ} {from : ℕ} {s : Token} (r : Token) → FirstToken text from s → s ≡ r → (ts : List Placed) → Here text from ts → SeenBy text from ts r
 first_seen {text} {from} r f same ts h =
     let first : FirstToken text from r = subst (FirstToken text from) same f in
     begins_seen ts h.ending r (first_onward first) (comes h.tokens first)
-
-pub sees_first : {text : List ℕ} {from : ℕ} {s : Token} (r : Token)
-    → FirstToken text from s
-    → s ≡ r
-    → Sees text from (record { word = word_in r; sign = sign_in r; byte = byte_in r; start = place_of r; end = end_from from r })
-sees_first r f same = record { stands = first_seen r f same }
 
 -- the code's way to say where it ends
 pub end_or : (from : ℕ) (r : Token) → unwrap_or (end_of r) from ≡ end_from from r
@@ -189,10 +203,10 @@ here_some {text} {from} h = by_cases (dec_lt from (length text))
 
 -- what is seen of a token ends behind it
 pub seen_behind : {text : List ℕ} {from p e b : ℕ} {t : Placed} {us : List Placed} {x : Word} {g : Sign} → SeenAs text from (t ∷ us) x g b p e → Behind text from e us
-seen_behind (Seen.a_word w h) = h
-seen_behind (Seen.a_number n d o h) = h
-seen_behind (Seen.a_letter b h) = h
-seen_behind (Seen.a_sign s h) = h
+seen_behind (seen_a_word w h) = h
+seen_behind (seen_a_number n d o h) = h
+seen_behind (seen_a_letter b h) = h
+seen_behind (seen_a_sign s h) = h
 
 -- and the second of some tokens stands there
 pub tail_behind : {text : List ℕ} {from p e b : ℕ} (ts : List Placed) {x : Word} {g : Sign} → 0 < length ts → SeenAs text from ts x g b p e → Behind text from e (drop 1 ts)
@@ -255,23 +269,23 @@ pub seen_word : {text : List ℕ} {from p e b q : ℕ} {l : List ℕ} {us : List
     → SeenAs text from ((word l at q) ∷ us) x g b p e
     → IsWord y l
     → x ≡ y
-seen_word {l = l} y (Seen.a_word h k) is = word_same l h is
+seen_word {l = l} y (seen_a_word h k) is = word_same l h is
 
 -- and which sign
 pub seen_sign : {text : List ℕ} {from p e b q : ℕ} {l : List ℕ} {us : List Placed} {x : Word} {g : Sign} (y : Sign)
     → SeenAs text from ((sign l at q) ∷ us) x g b p e
     → l ≡ written y
     → g ≡ y
-seen_sign y (Seen.a_sign {x = g} h k) is = sign_same g y (sym h ∙ is)
+seen_sign y (seen_a_sign {x = g} h k) is = sign_same g y (sym h ∙ is)
 
--- a sign that is seen, but for the semicolon, stands there
+-- a sign that is seen stands there
 pub record SignAt (text : List ℕ) (from end : ℕ) (y : Sign) (ts : List Placed) : Type 0 where
   pub place : ℕ
   pub rest : List Placed
   pub is : ts ≡ (sign (written y) at place) ∷ rest
   pub behind : Behind text from end rest
 
--- and so does a reserved word
+-- and so does a word
 pub record WordAt (text : List ℕ) (from end : ℕ) (y : Word) (ts : List Placed) : Type 0 where
   pub place : ℕ
   pub rest : List Placed
@@ -280,61 +294,61 @@ pub record WordAt (text : List ℕ) (from end : ℕ) (y : Word) (ts : List Place
   pub is : ts ≡ (word bytes at place) ∷ rest
   pub behind : Behind text from end rest
 
-pub no_semicolon : (y : Sign) → T (not (eqb (sign_tag y) 18)) → Sign.Semicolon ≡ y → ⊥
-no_semicolon y t e = T_not (eqb (sign_tag y) 18) t (subst (λ (n : ℕ). T (eqb n 18)) (ap sign_tag e) tt)
+pub sign_at : {text : List ℕ} {from e : ℕ} {ts : List Placed} {x : Sign} → SignFirst text from e x ts → SignAt text from e x ts
+sign_at (the_sign {p = p} {us = us} l h) =
+    record { place = p; rest = us; is = ap (λ (bytes : List ℕ). (sign bytes at p) ∷ us) l; behind = h }
 
-pub no_other : (y : Word) → T (not (eqb (word_tag y) 20)) → Word.Other ≡ y → ⊥
-no_other y t e = T_not (eqb (word_tag y) 20) t (subst (λ (n : ℕ). T (eqb n 20)) (ap word_tag e) tt)
+pub word_at : {text : List ℕ} {from e : ℕ} {ts : List Placed} {x : Word} → WordFirst text from e x ts → WordAt text from e x ts
+word_at (the_word {l = l} is h) =
+    record { place = _; rest = _; bytes = l; which = is; is = refl; behind = h }
 
-pub sign_at : {text : List ℕ} {from p e b : ℕ} {ts : List Placed} {x : Word} {g : Sign} (y : Sign)
-    → T (not (eqb (sign_tag y) 18))
-    → SeenAs text from ts x g b p e
-    → g ≡ y
-    → SignAt text from e y ts
-sign_at y t (Seen.a_word w h) is = absurd (no_semicolon y t is)
-sign_at y t (Seen.a_number n d o h) is = absurd (no_semicolon y t is)
-sign_at y t (Seen.a_letter b h) is = absurd (no_semicolon y t is)
-sign_at y t (Seen.a_sign {p = q} {us = us} l h) is =
-    record { place = q; rest = us; is = ap (λ (bytes : List ℕ). (sign bytes at q) ∷ us) (l ∙ ap written is); behind = h }
-sign_at y t Seen.nothing is = absurd (no_semicolon y t is)
+-- what stands behind it
+pub word_behind : {text : List ℕ} {from e : ℕ} {t : Placed} {us : List Placed} {x : Word} → WordFirst text from e x (t ∷ us) → Behind text from e us
+word_behind (the_word is h) = h
 
-pub word_at : {text : List ℕ} {from p e b : ℕ} {ts : List Placed} {x : Word} {g : Sign} (y : Word)
-    → T (not (eqb (word_tag y) 20))
-    → SeenAs text from ts x g b p e
-    → x ≡ y
-    → WordAt text from e y ts
-word_at y t (Seen.a_word {l = l} w h) is = record { place = _; rest = _; bytes = l; which = subst (λ (z : Word). IsWord z l) is w; is = refl; behind = h }
-word_at y t (Seen.a_number n d o h) is = absurd (no_other y t is)
-word_at y t (Seen.a_letter b h) is = absurd (no_other y t is)
-word_at y t (Seen.a_sign l h) is = absurd (no_other y t is)
-word_at y t Seen.nothing is = absurd (no_other y t is)
+pub sign_behind : {text : List ℕ} {from e : ℕ} {t : Placed} {us : List Placed} {x : Sign} → SignFirst text from e x (t ∷ us) → Behind text from e us
+sign_behind (the_sign is h) = h
+
+-- and which it is
+pub word_first_is : {text : List ℕ} {from e q : ℕ} {l : List ℕ} {us : List Placed} {x : Word} (y : Word) → WordFirst text from e x ((word l at q) ∷ us) → IsWord y l → x ≡ y
+word_first_is {l = l} y (the_word h k) is = word_same l h is
+
+pub sign_first_is : {text : List ℕ} {from e q : ℕ} {l : List ℕ} {us : List Placed} {x : Sign} (y : Sign) → SignFirst text from e x ((sign l at q) ∷ us) → l ≡ written y → x ≡ y
+sign_first_is {x = x} y (the_sign h k) is = sign_same x y (sym h ∙ is)
+
+pub no_sign_number : {text : List ℕ} {from e q : ℕ} {n : List ℕ} {us : List Placed} {x : Sign} → SignFirst text from e x ((number n at q) ∷ us) → ⊥
+no_sign_number first = elim first [ ]
 
 -- a number that is seen
 pub number_read : {text : List ℕ} {from q p e : ℕ} {n : List ℕ} {us : List Placed} {x : Word} {g : Sign} {b : ℕ}
     → SeenAs text from ((number n at q) ∷ us) x g b p e
     → (n ≡ part text p e) × T (every is_digit n) × (p ≤ e) × Behind text from e us
-number_read (Seen.a_number is digits order behind) = (is, digits, order, behind)
-
--- and no sign is seen there
-pub number_no_sign : {text : List ℕ} {from q p e : ℕ} {n : List ℕ} {us : List Placed} {x : Word} {g : Sign} {b : ℕ}
-    → SeenAs text from ((number n at q) ∷ us) x g b p e
-    → g ≡ Sign.Semicolon
-number_no_sign (Seen.a_number is digits order behind) = refl
+number_read (seen_a_number is digits order behind) = (is, digits, order, behind)
 
 -- a letter that is seen
 pub letter_read : {text : List ℕ} {from q p e : ℕ} {c : ℕ} {us : List Placed} {x : Word} {g : Sign} {b : ℕ}
     → SeenAs text from ((letter c at q) ∷ us) x g b p e
     → (b ≡ c) × Behind text from e us
-letter_read (Seen.a_letter t h) = (refl, h)
+letter_read (seen_a_letter t h) = (refl, h)
 
 -- the word that is wanted, or another, or none; and so with a sign
+word_begun : {text : List ℕ} {from p e : ℕ} {x : Word} {ts : List Placed} {ends : Ending} → from ≤ p → Begins text ts ends (Token.Word p e x) → WordFirst text from e x ts
+word_begun {text} {from} {e = e} {x = x} on b =
+    subst (λ (us : List Placed). WordFirst text from e x us) (sym b.next.first) (the_word b.which (behind on b.next))
+
+sign_begun : {text : List ℕ} {from p e : ℕ} {x : Sign} {ts : List Placed} {ends : Ending} → from ≤ p → Begins text ts ends (Token.Sign p e x) → SignFirst text from e x ts
+sign_begun {text} {from} {e = e} {x = x} on b =
+    subst (λ (us : List Placed). SignFirst text from e x us) (sym b.first) (the_sign refl (behind on b))
+
 pub word_hit : {text : List ℕ} {from : ℕ} {s : Token} {p e : ℕ} {x y : Word} → FirstToken text from s → s ≡ Token.Word p e x → x ≡ y → SeesWord text from e y
-word_hit {text} {from} {p = p} {e = e} {x = x} f is same =
-    record { sign = _; byte = _; start = _; sees = subst (λ (z : Word). Sees text from (record { word = z; sign = Sign.Semicolon; byte = 0; start = p; end = e })) same (sees_first (Token.Word p e x) f is) }
+word_hit {text} {from} {e = e} f is same =
+    let first = subst (FirstToken text from) is f in
+    record { stands = λ ts here. subst (λ (z : Word). WordFirst text from e z ts) same (word_begun (first_onward first) (comes here.tokens first)) }
 
 pub sign_hit : {text : List ℕ} {from : ℕ} {s : Token} {p e : ℕ} {x y : Sign} → FirstToken text from s → s ≡ Token.Sign p e x → x ≡ y → SeesSign text from e y
-sign_hit {text} {from} {p = p} {e = e} {x = x} f is same =
-    record { word = _; byte = _; start = _; sees = subst (λ (z : Sign). Sees text from (record { word = Word.Other; sign = z; byte = 0; start = p; end = e })) same (sees_first (Token.Sign p e x) f is) }
+sign_hit {text} {from} {e = e} f is same =
+    let first = subst (FirstToken text from) is f in
+    record { stands = λ ts here. subst (λ (z : Sign). SignFirst text from e z ts) same (sign_begun (first_onward first) (comes here.tokens first)) }
 
 pub word_miss : {text : List ℕ} {from : ℕ} {s : Token} {y : Word} → FirstToken text from s → ((p e : ℕ) (x : Word) → s ≡ Token.Word p e x → ¬ (x ≡ y)) → NotWord text from y
 word_miss {y = y} f other =

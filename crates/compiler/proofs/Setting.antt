@@ -47,7 +47,7 @@ use Rattle.compiler.specs.declared.write.Image.{Image}
 use Rattle.std.specs.Borrow.{MutBor}
 use Rattle.compiler.specs.declared.settings.Settled.{Settled}
 use Rattle.compiler.proofs.Writing.{length-written, written_whole}
-use Rattle.compiler.proofs.Seeing.{seen_behind, seen_word, seen_sign}
+use Rattle.compiler.proofs.Seeing.{word_behind, sign_behind, word_first_is, sign_first_is}
 
 -- no byte is over any, and one more goes behind those that are there
 over_none : (old : List ℕ) → old ≡ over old letters_place []
@@ -150,7 +150,7 @@ module _ {text before out : List ℕ} {place mid count b : ℕ} {us : Ts} {l : L
       → SoFar text before out end count us l
   unfolding letter_bytes
   comma bytes one here all written counted sees =
-      let same : Sign.Comma ≡ Sign.CloseBracket = seen_sign Sign.CloseBracket (sees.sees.stands _ (reads.reads here).1.here) refl in
+      let same : Sign.Comma ≡ Sign.CloseBracket = sign_first_is Sign.CloseBracket (sees.stands _ (reads.reads here).1.here) refl in
       absurd cc
   comma {close = close} bytes (more {ts = ts} {l = left} m) here all written counted sees =
       let r = reads.reads here in
@@ -159,7 +159,7 @@ module _ {text before out : List ℕ} {place mid count b : ℕ} {us : Ts} {l : L
         left = left;
         bytes = bytes ++ (b ∷ []);
         end = close;
-        here = (seen_behind (sees.sees.stands _ r.1.here)).here;
+        here = (sign_behind (sees.stands _ r.1.here)).here;
         letters = m;
         all = append_assoc bytes (b ∷ []) (letter_bytes left) ∙ ap (λ (x : ℕ). bytes ++ (x ∷ letter_bytes left)) r.0 ∙ all;
         written = written;
@@ -224,14 +224,14 @@ truth_at_word a =
 
 module _ {text : List ℕ} {place mid end : ℕ} {x : Word} (sees : SeesWord text place mid x) (pass : GoesPast text mid 1 end) where
   pub truth_behind : {ts us : Ts} {d : Bool} → Here text place ts → TruthAt ts d us → Here text end us
-  truth_behind here yes_at = (pass.behind _ (seen_behind (sees.sees.stands _ here)).here (omega arith)).here
-  truth_behind here no_at = (pass.behind _ (seen_behind (sees.sees.stands _ here)).here (omega arith)).here
+  truth_behind here yes_at = (pass.behind _ (word_behind (sees.stands _ here)).here (omega arith)).here
+  truth_behind here no_at = (pass.behind _ (word_behind (sees.stands _ here)).here (omega arith)).here
 
   pub told_is : {ts us : Ts} {d told : Bool} → told ≡ sameb the_type x Word.True → Here text place ts → TruthAt ts d us → told ≡ d
   told_is asked here yes_at =
-      asked ∙ ap (λ (y : Word). sameb the_type y Word.True) (seen_word Word.True (sees.sees.stands _ here) refl)
+      asked ∙ ap (λ (y : Word). sameb the_type y Word.True) (word_first_is Word.True (sees.stands _ here) refl)
   told_is asked here no_at =
-      asked ∙ ap (λ (y : Word). sameb the_type y Word.True) (seen_word Word.False (sees.sees.stands _ here) refl)
+      asked ∙ ap (λ (y : Word). sameb the_type y Word.True) (word_first_is Word.False (sees.stands _ here) refl)
 
 -- `decr_on_zero`, two tokens before its truth
 record DecrementOf (ts us : Ts) (d : Bool) : Type 0 where
@@ -287,7 +287,7 @@ module _ {text out : List ℕ} {start : ℕ} where
       → LettersFirst text out from us l d
   first (alphabet_first (alphabet {u = u} {v = v} {ts = inner} {us = after} letters) decrement) here few room sees pass =
       let o = decrement_of decrement in
-      let r = pass.behind _ (seen_behind (sees.sees.stands _ here)).here (omega arith) in
+      let r = pass.behind _ (word_behind (sees.stands _ here)).here (omega arith) in
       record {
         ts = inner;
         after = (s ";" at v) ∷ after;
@@ -299,7 +299,7 @@ module _ {text out : List ℕ} {start : ℕ} where
       }
   first (decrement_first decrement letters) here few room sees pass =
       let o = decrement_of decrement in
-      let same : Word.Alphabet ≡ Word.DecrOnZero = seen_word Word.DecrOnZero (sees.sees.stands _ (subst (Here text start) o.is here)) refl in
+      let same : Word.Alphabet ≡ Word.DecrOnZero = word_first_is Word.DecrOnZero (sees.stands _ (subst (Here text start) o.is here)) refl in
       absurd cc
 
   second : {v from : ℕ} {ts us : Ts} {f : Order} {l : List Letter} {d : Bool}

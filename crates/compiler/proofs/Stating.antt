@@ -2,10 +2,8 @@
 use Prim.Native.Nat.{ℕ, ◌+◌, ◌≤◌, ◌<◌}
 use native.Mathlib.Omega.{arith}
 use mathlib.Core.Path.{◌≡◌, refl, sym, ◌∙◌, ap, subst, subst₂}
-use mathlib.Core.Bool.{not}
 use mathlib.Core.List.{List, [], ◌∷◌, ◌++◌, append-nil}
 use lib.ListN.{length}
-use lib.Dec.{T, eqb}
 use Rattle.text.specs.Token.{Token, word, w, s}
 use Rattle.text.specs.Tokens.{◌at◌}
 use Rattle.text.specs.First.{IsWord}
@@ -19,7 +17,7 @@ use Rattle.rule.proofs.Invert.{Stop, stops, statement_accept, statement_reject, 
 use Rattle.rule.specs.Inside.Within.{StatementsWithin}
 use Rattle.construction.specs.Construction.{Part, and_then, statement_part, statements_part}
 use Rattle.compiler.specs.Inside.Writing.{Sheet, Holds, Filled, Sets}
-use Rattle.compiler.specs.Inside.Seeing.{Here, SeenAs, SeesWord, SeesSign, NotSign, GoesPast, AtWord}
+use Rattle.compiler.specs.Inside.Seeing.{Here, WordFirst, SeesWord, SeesSign, NotSign, GoesPast, AtWord}
 use Rattle.compiler.specs.Inside.Place.{Place, place_of}
 use Rattle.compiler.specs.Inside.Emission.{At, Doing, Ready, Emits, Emitted, rows_part, Follows, StatementTask, a_statement, HeadedTask, headed, Stops, RestTask, the_rest}
 use Rattle.compiler.specs.declared.Emitter.{Emitter}
@@ -27,8 +25,7 @@ use Rattle.compiler.specs.declared.see.Cursor.{Cursor}
 use Rattle.construction.proofs.Counts.{statements_next}
 use Rattle.compiler.specs.declared.write.Image.{Image}
 use Rattle.std.specs.Borrow.{MutBor}
-use Rattle.compiler.proofs.Tags.{word_tag}
-use Rattle.compiler.proofs.Seeing.{here_some, seen_word, SignAt, sign_at}
+use Rattle.compiler.proofs.Seeing.{here_some, word_first_is, SignAt, sign_at}
 use Rattle.compiler.proofs.Emission.{ready_in, emits_in, at_moved, fits_first, fits_then, emitted_as}
 use Rattle.compiler.proofs.Stepping.{headed_of}
 use Rattle.compiler.proofs.Nesting.{nothing_emitted, emitted_then, HeadAt, head_at}
@@ -162,12 +159,12 @@ pub record HeadedBy (e : Emitter) (end : ℕ) (head : Token) : Type 0 where
 -- the word that is seen
 pub named : {e : Emitter} {end : ℕ} {x : Word} (y : Word) (l : List ℕ)
     → ((bytes : List ℕ) → IsWord y bytes → bytes ≡ l)
-    → T (not (eqb (word_tag y) 20))
     → SeesWord e.cursor.text.now e.cursor.at end x
     → x ≡ y
     → HeadedBy e end (word l)
-named y l spelt counts seen is =
-    record { by = λ d. head_at y l spelt counts (seen.sees.stands _ d.stands.here) is }
+named {e} {end} y l spelt seen is =
+    let same = subst (SeesWord e.cursor.text.now e.cursor.at end) is seen in
+    record { by = λ d. head_at l spelt (same.stands _ d.stands.here) }
 
 -- or none of those that have a name
 pub record Unnamed (x : Word) : Type 0 where
@@ -179,40 +176,41 @@ pub record Unnamed (x : Word) : Type 0 where
   pub no_if : ¬ (x ≡ Word.If)
   pub no_while : ¬ (x ≡ Word.While)
 
-branch_left : {text : List ℕ} {from k e b : ℕ} {x : Word} {g : Sign} {ts us : Ts} {a : Statement}
+branch_left : {text : List ℕ} {from e : ℕ} {x : Word} {ts us : Ts} {a : Statement}
     → IsStatement ts a us
-    → SeenAs text from ts x g b k e
+    → WordFirst text from e x ts
     → Unnamed x
     → x ≡ Word.Branch
-branch_left (Grammar.plain Grammar.move_by) seen other = absurd (other.no_move (seen_word Word.Move seen refl))
-branch_left (Grammar.plain Grammar.move_back) seen other = absurd (other.no_move (seen_word Word.Move seen refl))
-branch_left (Grammar.plain Grammar.goto_lend) seen other = absurd (other.no_goto (seen_word Word.Goto seen refl))
-branch_left (Grammar.plain Grammar.goto_rend) seen other = absurd (other.no_goto (seen_word Word.Goto seen refl))
-branch_left (Grammar.plain Grammar.increment) seen other = absurd (other.no_c (seen_word Word.C seen refl))
-branch_left (Grammar.plain Grammar.decrement) seen other = absurd (other.no_c (seen_word Word.C seen refl))
-branch_left (Grammar.plain Grammar.add) seen other = absurd (other.no_c (seen_word Word.C seen refl))
-branch_left (Grammar.plain Grammar.subtract) seen other = absurd (other.no_c (seen_word Word.C seen refl))
-branch_left Grammar.accept seen other = absurd (other.no_accept (seen_word Word.Accept seen refl))
-branch_left Grammar.reject seen other = absurd (other.no_reject (seen_word Word.Reject seen refl))
-branch_left (Grammar.if c b e) seen other = absurd (other.no_if (seen_word Word.If seen refl))
-branch_left (Grammar.while c b) seen other = absurd (other.no_while (seen_word Word.While seen refl))
-branch_left (Grammar.choose b) seen other = absurd (other.no_while (seen_word Word.While seen refl))
-branch_left (Grammar.branch b a) seen other = seen_word Word.Branch seen refl
+branch_left (Grammar.plain Grammar.move_by) seen other = absurd (other.no_move (word_first_is Word.Move seen refl))
+branch_left (Grammar.plain Grammar.move_back) seen other = absurd (other.no_move (word_first_is Word.Move seen refl))
+branch_left (Grammar.plain Grammar.goto_lend) seen other = absurd (other.no_goto (word_first_is Word.Goto seen refl))
+branch_left (Grammar.plain Grammar.goto_rend) seen other = absurd (other.no_goto (word_first_is Word.Goto seen refl))
+branch_left (Grammar.plain Grammar.increment) seen other = absurd (other.no_c (word_first_is Word.C seen refl))
+branch_left (Grammar.plain Grammar.decrement) seen other = absurd (other.no_c (word_first_is Word.C seen refl))
+branch_left (Grammar.plain Grammar.add) seen other = absurd (other.no_c (word_first_is Word.C seen refl))
+branch_left (Grammar.plain Grammar.subtract) seen other = absurd (other.no_c (word_first_is Word.C seen refl))
+branch_left Grammar.accept seen other = absurd (other.no_accept (word_first_is Word.Accept seen refl))
+branch_left Grammar.reject seen other = absurd (other.no_reject (word_first_is Word.Reject seen refl))
+branch_left (Grammar.if c b e) seen other = absurd (other.no_if (word_first_is Word.If seen refl))
+branch_left (Grammar.while c b) seen other = absurd (other.no_while (word_first_is Word.While seen refl))
+branch_left (Grammar.choose b) seen other = absurd (other.no_while (word_first_is Word.While seen refl))
+branch_left (Grammar.branch b a) seen other = word_first_is Word.Branch seen refl
 
-task_left : {text : List ℕ} {from k e b : ℕ} {x : Word} {g : Sign} {alphabet : List ℕ} {p next : ℕ} {ts us : Ts} {part : Part}
+task_left : {text : List ℕ} {from e : ℕ} {x : Word} {alphabet : List ℕ} {p next : ℕ} {ts us : Ts} {part : Part}
     → StatementTask alphabet p next ts us part
-    → SeenAs text from ts x g b k e
+    → WordFirst text from e x ts
     → Unnamed x
     → x ≡ Word.Branch
 task_left (a_statement d follows within) seen other = branch_left d seen other
 
 -- what is left is a branch
 pub unnamed : {e : Emitter} {end : ℕ} {x : Word} → SeesWord e.cursor.text.now e.cursor.at end x → Unnamed x → HeadedBy e end (w "branch")
-unnamed seen other =
+unnamed {e} {end} {x} seen other =
     record {
-      by = λ d.
-          let first = seen.sees.stands _ d.stands.here in
-          head_at Word.Branch _ (λ bytes which. which) tt first (task_left d.is first other);
+      by = λ {h} {accepting} {rows} {p} {next} {ts} d.
+          let first = seen.stands ts d.stands.here in
+          head_at _ (λ bytes which. which)
+          (subst (λ (y : Word). WordFirst e.cursor.text.now e.cursor.at end y ts) (task_left d.is first other) first);
     }
 
 -- so it is ready behind that word, and what is emitted there is the statement
@@ -340,7 +338,7 @@ module _ {text out : List ℕ} {place : Place}
     (d : Doing RestTask text out place h accepting rows p next ts us part) where
   module _ {end : ℕ} (sees : SeesSign text place.at end Sign.CloseBrace) where
     abbrev brace_here : SignAt text place.at end Sign.CloseBrace ts
-    brace_here = sign_at Sign.CloseBrace tt (sees.sees.stands ts d.stands.here) refl
+    brace_here = sign_at (sees.stands ts d.stands.here)
 
     pub brace_onward : place.at ≤ end
     brace_onward = omega (arith, brace_here.behind.onward)

@@ -18,12 +18,12 @@ use Rattle.rule.proofs.Invert.{PlainOf, Move, forward, back, Goto, to_lend, to_r
 use Rattle.rule.specs.Inside.Within.{PlainWithin, StatementWithin}
 use Rattle.construction.specs.Construction.{move_code, change_code, Part, statement_part}
 use Rattle.compiler.specs.Inside.Writing.{Sheet, Filled, Room, Writes}
-use Rattle.compiler.specs.Inside.Seeing.{Here, Behind, Seen, Sees, SeesWord, SeesSign, NotWord, NotSign, GoesPast, AtNumber, ReadsNumber}
+use Rattle.compiler.specs.Inside.Seeing.{Here, Behind, SeesWord, SeesSign, NotWord, NotSign, GoesPast, AtNumber, ReadsNumber}
 use Rattle.compiler.specs.Inside.Place.{Place, place_of}
 use Rattle.compiler.specs.Inside.Emission.{Task, Doing, Ready, Emitted, Emits, Follows, a_statement, HeadedTask, headed, step_row, Steps}
 use Rattle.compiler.specs.declared.Emitter.{Emitter}
 use Rattle.compiler.specs.declared.see.Cursor.{Cursor}
-use Rattle.compiler.proofs.Seeing.{seen_behind, seen_word, seen_sign, number_no_sign}
+use Rattle.compiler.proofs.Seeing.{word_behind, sign_behind, word_first_is, sign_first_is, no_sign_number}
 use Rattle.compiler.proofs.Emission.{at_room, at_rows, emitted_as}
 
 -- a plain statement's part
@@ -202,11 +202,10 @@ module _ {text : List ℕ} {start : ℕ} where
     unfolding move_code change_code PlainWithin
     move_back_lem forward here within is minus =
         let r = pass.behind _ here (omega arith) in
-        let none : Sign.Minus ≡ Sign.Semicolon = number_no_sign (minus.sees.stands _ r.here) in
-        absurd cc
+        absurd (no_sign_number (minus.stands _ r.here))
     move_back_lem back here within is minus =
         let r = pass.behind _ here (omega arith) in
-        let b = seen_behind (minus.sees.stands _ r.here) in
+        let b = sign_behind (minus.stands _ r.here) in
         record {
           onward = omega (arith, r.onward, b.onward);
           bytes = _;
@@ -257,11 +256,11 @@ module _ {text : List ℕ} {start : ℕ} where
     unfolding move_code change_code
     goto_lend_lem to_lend here is lend =
         let r = pass.behind _ here (omega arith) in
-        let b = seen_behind (lend.sees.stands _ r.here) in
+        let b = word_behind (lend.stands _ r.here) in
         record { onward = omega (arith, r.onward, b.onward); rest = _; here = b.here; enough = omega arith; ends = refl; is = is }
     goto_lend_lem to_rend here is lend =
         let r = pass.behind _ here (omega arith) in
-        let same : Word.Lend ≡ Word.Rend = seen_word Word.Rend (lend.sees.stands _ r.here) refl in
+        let same : Word.Lend ≡ Word.Rend = word_first_is Word.Rend (lend.stands _ r.here) refl in
         absurd cc
 
     goto_rend_lem : {ts us : Ts} {e : Plain}
@@ -329,29 +328,29 @@ by_number b is small =
     }
 
 module _ {text : List ℕ} {start : ℕ} {part : Part} {p next : ℕ} where
-  change_seen : {t : Seen} {ts us : Ts} {e : Plain}
-      → Sees text start t
+  change_seen : {end : ℕ} {y : Sign} {ts us : Ts} {e : Plain}
+      → SeesSign text start end y
       → Change ts e us
       → Here text start ts
       → PlainWithin e
       → part ≡ step_part (move_code e) (change_code e) p next
-      → ChangeSeen text start t.end us part p next t.sign
+      → ChangeSeen text start end us part p next y
   unfolding move_code change_code PlainWithin
-  change_seen {t} sees (up {us = us}) here within is =
-      let b = seen_behind (sees.stands _ here) in
-      subst (ChangeSeen text start t.end us part p next) (sym (seen_sign Sign.Increment (sees.stands _ here) refl))
+  change_seen {end} sees (up {us = us}) here within is =
+      let b = sign_behind (sees.stands _ here) in
+      subst (ChangeSeen text start end us part p next) (sym (sign_first_is Sign.Increment (sees.stands _ here) refl))
       (seen_up (record { onward = omega (arith, b.onward); rest = _; here = b.here; enough = omega arith; ends = refl; is = is }))
-  change_seen {t} sees (down {us = us}) here within is =
-      let b = seen_behind (sees.stands _ here) in
-      subst (ChangeSeen text start t.end us part p next) (sym (seen_sign Sign.Decrement (sees.stands _ here) refl))
+  change_seen {end} sees (down {us = us}) here within is =
+      let b = sign_behind (sees.stands _ here) in
+      subst (ChangeSeen text start end us part p next) (sym (sign_first_is Sign.Decrement (sees.stands _ here) refl))
       (seen_down (record { onward = omega (arith, b.onward); rest = _; here = b.here; enough = omega arith; ends = refl; is = is }))
-  change_seen {t} sees (up_by {us = us}) here within is =
-      let b = seen_behind (sees.stands _ here) in
-      subst (ChangeSeen text start t.end us part p next) (sym (seen_sign Sign.Add (sees.stands _ here) refl))
+  change_seen {end} sees (up_by {us = us}) here within is =
+      let b = sign_behind (sees.stands _ here) in
+      subst (ChangeSeen text start end us part p next) (sym (sign_first_is Sign.Add (sees.stands _ here) refl))
       (seen_up_by (by_number b is within))
-  change_seen {t} sees (down_by {us = us}) here within is =
-      let b = seen_behind (sees.stands _ here) in
-      subst (ChangeSeen text start t.end us part p next) (sym (seen_sign Sign.Subtract (sees.stands _ here) refl))
+  change_seen {end} sees (down_by {us = us}) here within is =
+      let b = sign_behind (sees.stands _ here) in
+      subst (ChangeSeen text start end us part p next) (sym (sign_first_is Sign.Subtract (sees.stands _ here) refl))
       (seen_down_by (by_number b is within))
 
   as_up : {end : ℕ} {us : Ts} → ChangeSeen text start end us part p next Sign.Increment → Stepping text start end 1 us part p next no_move (no_change + 1)
@@ -401,7 +400,7 @@ module _ {text out : List ℕ} {place : Place}
   change_task = let o = headed_of d.is in plain_task o (statement_change o.derived)
 
   change_here : {end : ℕ} {y : Sign} → SeesSign text place.at end y → ChangeSeen text place.at end us part p next y
-  change_here sees = change_seen sees.sees change_task.derived d.stands.here change_task.within change_task.is
+  change_here sees = change_seen sees change_task.derived d.stands.here change_task.within change_task.is
 
   pub up_stepping : {end : ℕ} → SeesSign text place.at end Sign.Increment → Stepping text place.at end 1 us part p next no_move (no_change + 1)
   up_stepping sees = as_up (change_here sees)

@@ -5,7 +5,6 @@ use mathlib.Core.Path.{◌≡◌, refl, sym, ◌∙◌, ap, subst, subst₂}
 use mathlib.Core.Bool.{Bool, true, false, not}
 use mathlib.Core.List.{List, [], ◌∷◌, ◌++◌, append-nil, append_assoc}
 use lib.ListN.{length}
-use lib.Dec.{T, eqb}
 use Rattle.text.specs.Token.{s}
 use Rattle.text.specs.Token.{sign as signed}
 use Rattle.text.specs.First.{written}
@@ -17,7 +16,7 @@ use Rattle.rule.specs.Grammar.{Ts, IsAtom, read_is, read_is_not, counter_is, cou
 use Rattle.rule.specs.Inside.Within.{AtomWithin, ConditionWithin}
 use Rattle.construction.specs.Construction.{Part, atom_rows, Added, walk, one_after_other, one_or_other, test}
 use Rattle.compiler.specs.Inside.Writing.{Sheet, Filled, Room, Writes}
-use Rattle.compiler.specs.Inside.Seeing.{Here, Seen, SeenAs, Sees, NotSign, GoesPast}
+use Rattle.compiler.specs.Inside.Seeing.{Here, SeesSign, NotSign, GoesPast}
 use Rattle.atoms.specs.Atom.{Read, AtomAt}
 use Rattle.reader.specs.Inside.Atoms.{atom_of}
 use Rattle.atoms.specs.declared.Atom.{Atom as Tested}
@@ -29,7 +28,6 @@ use Rattle.compiler.specs.Inside.Emission.{At, Doing, Emitted, rows_part, added_
 use Rattle.compiler.specs.Inside.Operators.{ahead, Ahead}
 use Rattle.compiler.specs.declared.walk.Course.{Course}
 use Rattle.construction.proofs.Parts.{leads_walk}
-use Rattle.compiler.proofs.Tags.{sign_tag}
 use Rattle.compiler.proofs.Operators.{operator, join, no_operator, one_operator}
 use Rattle.compiler.proofs.Seeing.{here_some, SignAt, sign_at}
 use Rattle.compiler.proofs.AtomTokens.{FoundAt, atom_found, rows_are_lem}
@@ -296,40 +294,34 @@ atom_only (walks (negation d) closes within below) here none closed =
     absurd (none.other here refl)
 
 -- the call of an operand, by the sign that is seen
-module _ {text out : List ℕ} {place : Place} {to : ℕ} {sign : Bool} {t : Seen} (sees : Sees text place.at t)
+module _ {text out : List ℕ} {place : Place} {to : ℕ} {sign : Bool} {end : ℕ}
     {h : Sheet} {accepting : List ℕ} {rows : List Row} {p next : ℕ} {ts us : Ts} {part : Part}
     (d : Doing (WalkTask tightest to sign) text out place h accepting rows p next ts us part) where
-  abbrev first_seen : SeenAs text place.at ts t.word t.sign t.byte t.start t.end
-  first_seen = sees.stands ts d.stands.here
-
-  abbrev behind_sign : Place
-  behind_sign = record { at = t.end; state = place.state; next = place.next; row = place.row }
-
-  module _ (y : Sign) (counts : T (not (eqb (sign_tag y) 18))) (is : t.sign ≡ y) where
-    abbrev sign_here : SignAt text place.at t.end y ts
-    sign_here = sign_at y counts first_seen is
+  module _ {y : Sign} (sees : SeesSign text place.at end y) where
+    abbrev sign_here : SignAt text place.at end y ts
+    sign_here = sign_at (sees.stands ts d.stands.here)
 
     abbrev task_here : WalkTask tightest to sign h.alphabet p next ((signed (written y) at sign_here.place) ∷ sign_here.rest) us part
     task_here = subst (λ (xs : Ts). WalkTask tightest to sign h.alphabet p next xs us part) sign_here.is d.is
 
-    pub sign_onward : place.at < t.end
+    pub sign_onward : place.at < end
     sign_onward = sign_here.behind.onward
 
-    moved_here : At text out behind_sign h accepting rows p next sign_here.rest
-    moved_here = at_moved t.end d.stands sign_here.behind.here
+    moved_here : At text out (record { at = end; state = place.state; next = place.next; row = place.row }) h accepting rows p next sign_here.rest
+    moved_here = at_moved end d.stands sign_here.behind.here
 
-  module _ (is : t.sign ≡ Sign.Not) where
-    pub negation_doing : Doing (WalkTask tightest to (not sign)) text out behind_sign h accepting rows p next (sign_here Sign.Not tt is).rest us part
-    negation_doing =
-        record { stands = moved_here Sign.Not tt is; is = negated (task_here Sign.Not tt is); states = d.states; fits = d.fits }
+  pub negation_doing : (sees : SeesSign text place.at end Sign.Not)
+      → Doing (WalkTask tightest to (not sign)) text out (record { at = end; state = place.state; next = place.next; row = place.row }) h accepting rows p next (sign_here sees).rest us part
+  negation_doing sees =
+      record { stands = moved_here sees; is = negated (task_here sees); states = d.states; fits = d.fits }
 
-  module _ (is : t.sign ≡ Sign.OpenParen) where
-    abbrev inside : Inside to sign h.alphabet p next (sign_here Sign.OpenParen tt is).rest us part
-    inside = enclosed (task_here Sign.OpenParen tt is)
+  module _ (sees : SeesSign text place.at end Sign.OpenParen) where
+    abbrev inside : Inside to sign h.alphabet p next (sign_here sees).rest us part
+    inside = enclosed (task_here sees)
 
-    pub parens_doing : Doing (WalkTask loosest to sign) text out behind_sign h accepting rows p next (sign_here Sign.OpenParen tt is).rest ((s ")" at inside.place) ∷ us) part
+    pub parens_doing : Doing (WalkTask loosest to sign) text out (record { at = end; state = place.state; next = place.next; row = place.row }) h accepting rows p next (sign_here sees).rest ((s ")" at inside.place) ∷ us) part
     parens_doing =
-        record { stands = moved_here Sign.OpenParen tt is; is = inside.inner; states = d.states; fits = d.fits }
+        record { stands = moved_here sees; is = inside.inner; states = d.states; fits = d.fits }
 
 -- and with neither
 pub atom_doing : {text out : List ℕ} {place : Place} {to : ℕ} {sign : Bool}

@@ -48,7 +48,8 @@ impl Cursor<'_> {
         }
     }
 
-    // Past this word, if it comes next; whether it does.
+    // Past this word, if it comes next; whether it does. Beside it stands the same of a sign: each takes its own sort of token
+    // apart, and one over both would need a trait that says no more.
     pub fn eat_word(&mut self, wanted: Word) -> bool
         ensures { EatsWord self.old self.new wanted result }
     {

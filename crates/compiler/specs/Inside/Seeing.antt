@@ -1,9 +1,9 @@
 -- What the emitter sees of a text's tokens. No caller relies on any of it.
-use Rattle.std.specs.Prelude.{ℕ, ◌+◌, ◌≤◌, ◌<◌, ◌≡◌, Bool, true, false, List, [], ◌∷◌, length, drop, T, Option, Some, None}
-use Rattle.bits.specs.Byte.{is_digit, is_letter}
+use Rattle.std.specs.Prelude.{ℕ, ◌+◌, ◌≤◌, ◌<◌, ◌≡◌, Bool, true, false, List, ◌∷◌, length, drop, T, Option, Some, None}
+use Rattle.bits.specs.Byte.{is_digit}
 use Rattle.text.specs.Token.{word, number, letter, sign, every}
 use Rattle.text.specs.Tokens.{Placed, ◌at◌, Ending, Tokens}
-use Rattle.text.specs.First.{part, IsWord, written}
+use Rattle.text.specs.First.{IsWord, written}
 use Rattle.text.specs.declared.Word.{Word}
 use Rattle.text.specs.declared.Sign.{Sign}
 use Rattle.text.specs.declared.Token.{Token}
@@ -20,40 +20,6 @@ pub record Behind (text : List ℕ) (from end : ℕ) (us : List Placed) : Type 0
   pub onward : from < end
   pub within : end ≤ length text
   pub here : Here text end us
-
--- how the first of some tokens is seen: which word it is, or Other; which sign, or the semicolon; which letter, or 0; where it starts and ends
-pub data SeenAs (text : List ℕ) (from : ℕ) : List Placed → Word → Sign → ℕ → ℕ → ℕ → Type 0 where
-  a_word : {l : List ℕ} {p e : ℕ} {us : List Placed} {x : Word}
-      → IsWord x l
-      → Behind text from e us
-      → SeenAs text from ((word l at p) ∷ us) x Sign.Semicolon 0 p e
-  a_number : {n : List ℕ} {p e : ℕ} {us : List Placed}
-      → n ≡ part text p e
-      → T (every is_digit n)
-      → p ≤ e
-      → Behind text from e us
-      → SeenAs text from ((number n at p) ∷ us) Word.Other Sign.Semicolon 0 p e
-  a_letter : {b p e : ℕ} {us : List Placed}
-      → T (is_letter b)
-      → Behind text from e us
-      → SeenAs text from ((letter b at p) ∷ us) Word.Other Sign.Semicolon b p e
-  a_sign : {l : List ℕ} {p e : ℕ} {us : List Placed} {x : Sign}
-      → l ≡ written x
-      → Behind text from e us
-      → SeenAs text from ((sign l at p) ∷ us) Word.Other x 0 p e
-  nothing : {p : ℕ} → SeenAs text from [] Word.Other Sign.Semicolon 0 p from
-
-pub record Seen : Type 0 where
-  pub word : Word
-  pub sign : Sign
-  pub byte : ℕ
-  pub start : ℕ
-  pub end : ℕ
-
-pub record Sees (text : List ℕ) (from : ℕ) (seen : Seen) : Type 0 where
-  pub stands : (ts : List Placed)
-      → Here text from ts
-      → SeenAs text from ts seen.word seen.sign seen.byte seen.start seen.end
 
 -- where an answer's token ends
 abbrev pub end_of : Token → Option ℕ
@@ -77,19 +43,25 @@ pub record Skips (k r : Cursor) (many : ℕ) : Type 0 where
   pub text : r.text.now ≡ k.text.now
   pub passes : GoesPast k.text.now k.at many r.at
 
--- a word that is seen, up to where it ends
-pub record SeesWord (text : List ℕ) (from end : ℕ) (x : Word) : Type 0 where
-  pub sign : Sign
-  pub byte : ℕ
-  pub start : ℕ
-  pub sees : Sees text from (record { word = x; sign = sign; byte = byte; start = start; end = end })
+-- this word is the first of some tokens and ends there, or this sign
+pub data WordFirst (text : List ℕ) (from end : ℕ) (x : Word) : List Placed → Type 0 where
+  the_word : {l : List ℕ} {p : ℕ} {us : List Placed}
+      → IsWord x l
+      → Behind text from end us
+      → WordFirst text from end x ((word l at p) ∷ us)
 
--- and a sign
+pub data SignFirst (text : List ℕ) (from end : ℕ) (x : Sign) : List Placed → Type 0 where
+  the_sign : {l : List ℕ} {p : ℕ} {us : List Placed}
+      → l ≡ written x
+      → Behind text from end us
+      → SignFirst text from end x ((sign l at p) ∷ us)
+
+-- it comes next, whatever tokens stand there
+pub record SeesWord (text : List ℕ) (from end : ℕ) (x : Word) : Type 0 where
+  pub stands : (ts : List Placed) → Here text from ts → WordFirst text from end x ts
+
 pub record SeesSign (text : List ℕ) (from end : ℕ) (x : Sign) : Type 0 where
-  pub word : Word
-  pub byte : ℕ
-  pub start : ℕ
-  pub sees : Sees text from (record { word = word; sign = x; byte = byte; start = start; end = end })
+  pub stands : (ts : List Placed) → Here text from ts → SignFirst text from end x ts
 
 -- no such word comes next, or no such sign
 pub record NotWord (text : List ℕ) (from : ℕ) (x : Word) : Type 0 where

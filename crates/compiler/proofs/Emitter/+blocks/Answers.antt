@@ -230,58 +230,58 @@ pub emit_statement-word-requires : goal.emit_statement-word-requires
 emit_statement-word-requires t c = statement_at_word c.requires
 
 pub emit_statement-emit_move-requires : goal.emit_statement-emit_move-requires
-emit_statement-emit_move-requires t c = headed_ready c.word.new.self c.word.ensures.text c.requires (named Word.Move _ (λ bytes which. which) tt c.word.ensures.seen c.in-Move.is)
+emit_statement-emit_move-requires t c = headed_ready c.word.new.self c.word.ensures.text c.requires (named Word.Move _ (λ bytes which. which) c.word.ensures.seen c.in-Move.is)
 
 pub emit_statement-returns-in-Move : goal.emit_statement-returns-in-Move
 emit_statement-returns-in-Move t c =
-    headed_emits c.word.new.self c.word.ensures.text c.requires (named Word.Move _ (λ bytes which. which) tt c.word.ensures.seen c.in-Move.is) c.emit_move.ensures
+    headed_emits c.word.new.self c.word.ensures.text c.requires (named Word.Move _ (λ bytes which. which) c.word.ensures.seen c.in-Move.is) c.emit_move.ensures
 
 pub emit_statement-emit_goto-requires : goal.emit_statement-emit_goto-requires
-emit_statement-emit_goto-requires t c = headed_ready c.word.new.self c.word.ensures.text c.requires (named Word.Goto _ (λ bytes which. which) tt c.word.ensures.seen c.in-Goto.is)
+emit_statement-emit_goto-requires t c = headed_ready c.word.new.self c.word.ensures.text c.requires (named Word.Goto _ (λ bytes which. which) c.word.ensures.seen c.in-Goto.is)
 
 pub emit_statement-returns-in-Goto : goal.emit_statement-returns-in-Goto
 emit_statement-returns-in-Goto t c =
-    headed_emits c.word.new.self c.word.ensures.text c.requires (named Word.Goto _ (λ bytes which. which) tt c.word.ensures.seen c.in-Goto.is) c.emit_goto.ensures
+    headed_emits c.word.new.self c.word.ensures.text c.requires (named Word.Goto _ (λ bytes which. which) c.word.ensures.seen c.in-Goto.is) c.emit_goto.ensures
 
 pub emit_statement-emit_change-requires : goal.emit_statement-emit_change-requires
-emit_statement-emit_change-requires t c = headed_ready c.word.new.self c.word.ensures.text c.requires (named Word.C _ (λ bytes which. which) tt c.word.ensures.seen c.in-C.is)
+emit_statement-emit_change-requires t c = headed_ready c.word.new.self c.word.ensures.text c.requires (named Word.C _ (λ bytes which. which) c.word.ensures.seen c.in-C.is)
 
 pub emit_statement-returns-in-C : goal.emit_statement-returns-in-C
 emit_statement-returns-in-C t c =
-    headed_emits c.word.new.self c.word.ensures.text c.requires (named Word.C _ (λ bytes which. which) tt c.word.ensures.seen c.in-C.is) c.emit_change.ensures
+    headed_emits c.word.new.self c.word.ensures.text c.requires (named Word.C _ (λ bytes which. which) c.word.ensures.seen c.in-C.is) c.emit_change.ensures
 
 pub emit_statement-emit_accept-requires : goal.emit_statement-emit_accept-requires
-emit_statement-emit_accept-requires t c = headed_ready c.word.new.self c.word.ensures.text c.requires (named Word.Accept _ (λ bytes which. which) tt c.word.ensures.seen c.in-Accept.is)
+emit_statement-emit_accept-requires t c = headed_ready c.word.new.self c.word.ensures.text c.requires (named Word.Accept _ (λ bytes which. which) c.word.ensures.seen c.in-Accept.is)
 
 pub emit_statement-returns-in-Accept : goal.emit_statement-returns-in-Accept
 emit_statement-returns-in-Accept t c =
-    headed_emits c.word.new.self c.word.ensures.text c.requires (named Word.Accept _ (λ bytes which. which) tt c.word.ensures.seen c.in-Accept.is) c.emit_accept.ensures
+    headed_emits c.word.new.self c.word.ensures.text c.requires (named Word.Accept _ (λ bytes which. which) c.word.ensures.seen c.in-Accept.is) c.emit_accept.ensures
 
 pub emit_statement-emit_if-requires : goal.emit_statement-emit_if-requires
 emit_statement-emit_if-requires t c =
-    let a = named Word.If _ (λ bytes which. which) tt c.word.ensures.seen c.in-If.is in
+    let a = named Word.If _ (λ bytes which. which) c.word.ensures.seen c.in-If.is in
     let text = c.word.ensures.text in
     (omega (arith, c.decreases, headed_onward c.word.new.self text c.requires a, ap length text), headed_ready c.word.new.self text c.requires a)
 
 pub emit_statement-returns-in-If : goal.emit_statement-returns-in-If
 emit_statement-returns-in-If t c =
-    headed_emits c.word.new.self c.word.ensures.text c.requires (named Word.If _ (λ bytes which. which) tt c.word.ensures.seen c.in-If.is) c.emit_if.ensures
+    headed_emits c.word.new.self c.word.ensures.text c.requires (named Word.If _ (λ bytes which. which) c.word.ensures.seen c.in-If.is) c.emit_if.ensures
 
 pub emit_statement-emit_while-requires : goal.emit_statement-emit_while-requires
 emit_statement-emit_while-requires t c =
-    let a = named Word.While _ (λ bytes which. which) tt c.word.ensures.seen c.in-While.is in
+    let a = named Word.While _ (λ bytes which. which) c.word.ensures.seen c.in-While.is in
     let text = c.word.ensures.text in
     (omega (arith, c.decreases, headed_onward c.word.new.self text c.requires a, ap length text), headed_ready c.word.new.self text c.requires a)
 
 pub emit_statement-returns-in-While : goal.emit_statement-returns-in-While
 emit_statement-returns-in-While t c =
-    headed_emits c.word.new.self c.word.ensures.text c.requires (named Word.While _ (λ bytes which. which) tt c.word.ensures.seen c.in-While.is) c.emit_while.ensures
+    headed_emits c.word.new.self c.word.ensures.text c.requires (named Word.While _ (λ bytes which. which) c.word.ensures.seen c.in-While.is) c.emit_while.ensures
 
 pub emit_statement-emit_stop-requires : goal.emit_statement-emit_stop-requires
-emit_statement-emit_stop-requires t c = rejects_few c.word.new.self c.word.ensures.text c.requires (named Word.Reject _ (λ bytes which. which) tt c.word.ensures.seen c.in-Reject.is)
+emit_statement-emit_stop-requires t c = rejects_few c.word.new.self c.word.ensures.text c.requires (named Word.Reject _ (λ bytes which. which) c.word.ensures.seen c.in-Reject.is)
 
 pub emit_statement-returns-in-Reject : goal.emit_statement-returns-in-Reject
-emit_statement-returns-in-Reject t c = rejects_emit c.word.new.self c.word.ensures.text c.requires (named Word.Reject _ (λ bytes which. which) tt c.word.ensures.seen c.in-Reject.is) c.emit_stop.ensures
+emit_statement-returns-in-Reject t c = rejects_emit c.word.new.self c.word.ensures.text c.requires (named Word.Reject _ (λ bytes which. which) c.word.ensures.seen c.in-Reject.is) c.emit_stop.ensures
 
 pub emit_statement-emit_branch-requires : goal.emit_statement-emit_branch-requires
 emit_statement-emit_branch-requires t c =

@@ -1,10 +1,9 @@
 -- The walker's cycle of calls. The measure is five for each byte of the text that is left, and a rank: a chain of `||`, a side of it,
 -- a chain of `&&`, a side of it, an operand.
 use native.Mathlib.Omega.{arith}
-use mathlib.Core.Path.{refl, ◌∙◌, ap, subst}
+use mathlib.Core.Path.{◌∙◌, ap, subst}
 use mathlib.Core.Bool.{Bool}
 use lib.ListN.{length}
-use Rattle.text.specs.declared.Sign.TheVariants as Sign
 use Rattle.compiler.specs.Inside.Operators.{is_or, Ahead}
 use Rattle.compiler.specs.Inside.Emission.{Leads}
 use Rattle.compiler.proofs.Seeing.{passes_in, eats_from}
@@ -70,8 +69,8 @@ emit_operand-emit_operand-requires t c =
     let eats = c.eat_sign.ensures in
     let hit = eats.hit c.if-eat_sign.true in
     let d = c.requires.doing in (
-      omega (arith, c.decreases, sign_onward hit.sees d Sign.Not tt refl, walk_some d, ap length eats.text),
-      ready_in eats.text (negation_doing hit.sees d refl),
+      omega (arith, c.decreases, sign_onward d hit, walk_some d, ap length eats.text),
+      ready_in eats.text (negation_doing d hit),
     )
 
 pub emit_operand-emit_chain-requires : goal.emit_operand-emit_chain-requires
@@ -79,8 +78,8 @@ emit_operand-emit_chain-requires t c =
     let eats = eats_from (c.eat_sign.ensures.miss c.if-eat_sign.false).1 c.eat_sign-else-eat_sign.ensures in
     let hit = eats.hit c.if-eat_sign-2.true in
     let d = c.requires.doing in (
-      omega (arith, c.decreases, sign_onward hit.sees d Sign.OpenParen tt refl, walk_some d, ap length eats.text),
-      ready_in eats.text (parens_doing hit.sees d refl),
+      omega (arith, c.decreases, sign_onward d hit, walk_some d, ap length eats.text),
+      ready_in eats.text (parens_doing d hit),
     )
 
 pub emit_operand-emit_atom-requires : goal.emit_operand-emit_atom-requires
@@ -95,8 +94,8 @@ emit_operand-returns-then-eat_sign t c =
     let hit = eats.hit c.if-eat_sign.true in
     let inner = c.emit_operand.ensures in
     record {
-      emits = λ d. emits_in inner eats.text (negation_doing hit.sees d refl);
-      onward = omega (arith, sign_onward hit.sees c.requires.doing Sign.Not tt refl, inner.onward);
+      emits = λ d. emits_in inner eats.text (negation_doing d hit);
+      onward = omega (arith, sign_onward c.requires.doing hit, inner.onward);
       text = inner.text ∙ eats.text;
       same = inner.same;
     }
@@ -110,13 +109,13 @@ emit_operand-returns-then-eat_sign-2 t c =
     let pass = passes_in text c.skip.ensures in
     let d₀ = c.requires.doing in
     record {
-      emits = λ d. emitted_past (emits_in inner eats.text (parens_doing hit.sees d refl)) pass;
+      emits = λ d. emitted_past (emits_in inner eats.text (parens_doing d hit)) pass;
       onward =
           omega (
             arith,
-            sign_onward hit.sees d₀ Sign.OpenParen tt refl,
+            sign_onward d₀ hit,
             inner.onward,
-            past_onward (emits_in inner eats.text (parens_doing hit.sees d₀ refl)) pass,
+            past_onward (emits_in inner eats.text (parens_doing d₀ hit)) pass,
           );
       text = c.skip.ensures.text ∙ text;
       same = inner.same;
