@@ -1,4 +1,5 @@
-// Bytes, and bits of a slice of them. Bit i is bit i mod 8, the least being 0, of byte i / 8.
+// Bytes, and bits of a slice of them. Bit i is bit i mod 8, the least being 0, of byte i / 8. What is past the end is 0, as the definitions
+// have it, and a bit is a number there, so neither is an Option or a bool.
 #![tactic(auto)]
 
 ghost use Rattle.std.specs.Prelude.{◌≡◌, get_or, length, replicate};

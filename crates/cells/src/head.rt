@@ -1,5 +1,5 @@
 // A head: the word together with the cell it stands on. A row's step calls `seen` and `goes`, whose parameters are plain: a head stands
-// only inside them.
+// only inside them. Document 01 asks for both.
 ghost use Rattle.std.specs.Prelude.{◌≡◌};
 ghost use Rattle.cells.specs.Cell.{last, symbol_on, moved};
 ghost use Rattle.cells.specs.Code.{symbol_is};
@@ -8,6 +8,7 @@ ghost use Rattle.cells.specs.Head.{Moves};
 use crate::Symbol;
 use table::form;
 
+// A word and a cell of it.
 #[derive(Clone, Copy)]
 pub struct Head<'a> {
     pub word: &'a [u8],
@@ -15,6 +16,7 @@ pub struct Head<'a> {
 }
 
 impl<'a> Head<'a> {
+    // A head on a cell of a word.
     pub fn on(word: &'a [u8], cell: usize) -> Self
         ensures { (result.word ≡ word.entry) × (result.cell ≡ cell) }
     {
@@ -38,12 +40,14 @@ impl<'a> Head<'a> {
         }
     }
 
+    // The head on the left mark.
     pub fn to_left(self) -> Self
         ensures { (result.word ≡ self.entry.word) × (result.cell ≡ 0) }
     {
         self.by(form::TO_LEFT)
     }
 
+    // The head on the right mark.
     pub fn to_right(self) -> Self
         ensures { (result.word ≡ self.entry.word) × (result.cell ≡ last self.entry.word.now) }
     {

@@ -9,6 +9,7 @@ ghost use Rattle.cells.specs.Code.{symbol_is};
 
 use table::form;
 
+// What stands on a cell. (That of `atoms` is what a text compares with: it keeps a letter's place, for a refusal.)
 #[derive(Clone, Copy, Debug, PartialEq, Eq)]
 pub enum Symbol {
     LeftMark,

@@ -18,7 +18,8 @@ fn judged_number(judged: Judged) -> u64
     u64::from(judged.verdict.number()) * 1000000 + judged.count as u64
 }
 
-// A refusal as one number.
+// A refusal as one number. (`office` makes its own: a function for both would be public, with no `requires`, and the sum of any place need
+// not fit a number.)
 fn refused_number(refused: Refusal) -> u64
     requires { refused.place < 1000000 }
     ensures { result ≡ refusal (number_of refused.reason) refused.place }

@@ -27,7 +27,7 @@ fn read_some<R: Read>(reader: &mut R, buf: &mut [u8], from: usize) -> io::Result
 }
 
 // Reads until the buffer is full or the input ends. The answer is how many bytes came, or of what a read failed. The library has no method
-// for it without a heap: `read_exact` takes the input's end for a failure.
+// for it that says this of a lent buffer: `read_exact` takes the input's end for a failure, and `read_to_end` fills a vector.
 pub fn read_all<R: Read>(reader: &mut R, buf: &mut [u8]) -> io::Result<usize>
     ensures within { Within result (length buf.old) }
     ensures size { length buf.new ≡ length buf.old }

@@ -5,6 +5,7 @@ use std::fs::{File, Files};
 use std::io::{Error, ErrorKind};
 use std::{io, str};
 
+// The text that a name is.
 pub fn text(name: &[u8]) -> io::Result<&str>
     ensures { IfOk result (λ s. s.now ≡ name.now) }
 {

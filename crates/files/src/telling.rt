@@ -39,7 +39,8 @@ pub fn fail<R: AllocGlobal, W: Write>(
     }
 }
 
-// Writes a program's line. One that cannot be written is said on standard error: no line never means that all is well.
+// Writes a program's line. One that cannot be written is said on standard error: no line never means that all is well. So the answer has no
+// error left to carry.
 pub fn show<R: AllocGlobal, O: Write, E: Write>(
     rt: &R,
     out: &mut O,

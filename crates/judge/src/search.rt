@@ -20,6 +20,7 @@ fn suits(image: &[u8], symbol: u8, test: u8, seen: Symbol, counter: usize) -> bo
 }
 
 // Row j of those that a range shows for situation i: it stands at this place, and in the situation this is seen.
+// `range` and `j` are there for the contracts: they say which row of the source it is.
 #[derive(Clone, Copy)]
 struct Shown {
     i: usize,
@@ -96,6 +97,7 @@ impl Search<'_> {
         let seen = cells::head::seen(self.word, i / 32 % 64);
         let mut at = range.first;
         let mut past = over;
+        // From one place to the next by a sum: a product of two numbers that are not known is harder to prove within the bytes.
         for j in 0..range.many {
             let shown = Shown {
                 i,

@@ -12,7 +12,7 @@ use crate::parts::{add, number};
 use judgement::answer::{Judged, Verdict};
 use table::reason::Refusal;
 
-// What a refusal's number means, and the line's end.
+// What a refusal's number means, and the line's end. By the number, as `verdict_line` has it.
 fn meaning(refusal: usize) -> &'static [u8]
     ensures is { result.now ≡ VerdictLine·meaning refusal ++ spelling "\n" }
     ensures short { length result.now ≤ 55 }
@@ -66,7 +66,8 @@ pub fn answer_line(answer: Result<Judged, Refusal>, out: &mut [u8; 105]) -> usiz
     }
 }
 
-// The same of the answer that a number stands for, as C has it. It takes every number, since its promise speaks of every one.
+// The same of the answer that a number stands for, as C has it. It takes every number, since its promise
+// (docs/PROMISES.md) speaks of every one.
 pub fn verdict_line(answer: u64, out: &mut [u8; 105]) -> usize
     ensures { Stands out.old out.new result (verdict_line (answer_of answer)) }
 {

@@ -1,4 +1,4 @@
-// Reading a rule: its grammar, its limits, and how many states and rows it takes. The readers lend no buffer.
+// Reading a rule: its grammar, its limits, and how many states and rows it takes. The readers are lent no buffer.
 #![tactic(auto)]
 
 mod answers;

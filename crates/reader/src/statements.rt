@@ -87,7 +87,7 @@ impl<'a> Reader<'a> {
         self.sign(Sign::OpenParen)?.counting(2, 1).guarded(scope)
     }
 
-    // Arms, from two to eight.
+    // Arms, from two to eight: they are counted, since a ninth is refused.
     #[cycle(statements)]
     fn behind_branch(self, scope: Scope) -> Result<Reader<'a>, Refusal>
         ensures { ReadsOn self.entry (block scope.depth ∷ arms scope.depth 1 ∷ []) (statements scope.depth ∷ []) (alphabet_of scope.letters) result }

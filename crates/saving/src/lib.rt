@@ -7,7 +7,7 @@ mod seen;
 ghost use Rattle.std.specs.Prelude.{◌+◌, ◌≤◌, ◌<◌, ◌≡◌, ◌++◌, true, length, take, drop, OnOk, is_ok};
 ghost use Rattle.std.specs.Io.KnownBytes.{Appends};
 ghost use Rattle.saving.specs.Names.{nameable};
-ghost use Rattle.saving.specs.Inside.Naming.{Named, Ended, Tried};
+ghost use Rattle.saving.specs.Inside.Naming.{Named, Tried};
 ghost use Rattle.saving.specs.Inside.Seen.{replaceable};
 
 use crate::seen::{Seen, Stands, at, behind};
@@ -53,16 +53,14 @@ fn put_bytes(buffer: &mut [u8], at: usize, bytes: &[u8])
     buffer[at..end].copy_from_slice(bytes);
 }
 
-// A name with these bytes behind it, in a buffer whose last byte is 0.
+// A name with these bytes behind it. (A vector of fixed size from the kit would be trusted anew.)
 fn with_behind(path: &[u8], more: &[u8]) -> [u8; 4096]
     requires { length path.now + length more.now ≤ 4095 }
-    ensures named { Named result path.now more.now }
-    ensures ended { Ended result }
+    ensures { Named result path.now more.now }
 {
     let mut name = [0u8; 4096];
     put_bytes(&mut name, 0, path);
     put_bytes(&mut name, path.len(), more);
-    name[4095] = 0;
     name
 }
 
@@ -116,7 +114,7 @@ fn not_created(path: &[u8], error: io::Error) -> Unsaved<'_> {
     Unsaved::Failed { name: path, error }
 }
 
-// Whether the new file has the old one's permissions, if there was one, and all of the bytes, on its device.
+// Gives the new file the old one's permissions, if there was one, and all of the bytes, on its device.
 fn written<F: Write + OpenFile>(
     file: &mut F,
     content: &[u8],
@@ -228,7 +226,7 @@ fn told<R: AllocGlobal, W: Write>(rt: &R, errors: &mut W, why: Unsaved<'_>) -> i
 }
 
 // Saves a file whole under a name where nothing stands, or a file that is not the one to which `source` leads; says on standard error
-// what kept it from that.
+// what kept it from that. So the answer has no error left to carry: it is whether the file is there.
 pub fn save<R: Files + AllocGlobal, W: Write>(
     rt: &R,
     errors: &mut W,

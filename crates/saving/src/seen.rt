@@ -29,7 +29,7 @@ pub struct Seen {
     pub which: Which,
 }
 
-// What stands at a name.
+// What stands at a name, by its mode, of which the definition speaks.
 #[derive(Clone, Copy, Debug, PartialEq, Eq)]
 pub enum Stands {
     File,

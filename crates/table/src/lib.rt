@@ -1,4 +1,5 @@
-// A table's image, for code that reads or writes one: its form, a row, and what a source of rows is. What reads them are `fields` and `rows`.
+// A table's image, for code that reads or writes one: its form, a row, and what a source of rows is; and why an entry
+// refuses. What reads images are `fields` and `rows`.
 #![tactic(auto)]
 
 pub mod form; // form.rt: the places of the fields, and the codes in a row

@@ -24,7 +24,8 @@ pub enum Reason {
 }
 
 impl Reason {
-    // Document 01's number of the reason.
+    // Document 01's number of the reason. By a match and not as the enum's own numbers, of which no two can be equal: so no edit could
+    // show a wrong one.
     pub fn number(self) -> u8
         ensures { result ≡ number_of self }
     {

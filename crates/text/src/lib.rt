@@ -1,7 +1,7 @@
 // What the tokens of a text are, in definitions and their laws, and the types that name them in code.
 #![tactic(auto)]
 
-// The reserved words, and Other for a word that is not reserved.
+// The reserved words, and Other for a word that is not reserved, which is a token too.
 #[derive(Clone, Copy, Debug, PartialEq, Eq)]
 pub enum Word {
     Alphabet,

@@ -21,8 +21,7 @@ pub fn step_at(text: &[u8], at: usize) -> ControlFlow<Token, usize>
 {
     match kind_of(text[at]) {
         Kind::Digit => ControlFlow::Break(number_at(text, at)),
-        Kind::Alphabetic => ControlFlow::Break(word_at(text, at)),
-        Kind::Underscore => ControlFlow::Break(word_at(text, at)),
+        Kind::Alphabetic | Kind::Underscore => ControlFlow::Break(word_at(text, at)),
         Kind::Quote => ControlFlow::Break(letter_at(text, at)),
         Kind::White => ControlFlow::Continue(at + 1),
         Kind::Slash => slash_at(text, at),
