@@ -8,7 +8,8 @@ use reader::Counts;
 use table::form;
 use text::{Sign, Word};
 
-// The letters behind the `[`, to where the image has them, and past the `]`; how many they are.
+// The letters behind the `[`, to where the image has them, and past the `]`; how many they are. (They are counted by hand: where they end is
+// known only by reading them.)
 fn letters(cursor: &mut Cursor<'_>, out: &mut [u8]) -> usize
     requires { Letters cursor.old out.old }
     ensures { Lists cursor.old cursor.new out.old out.new result }

@@ -1,4 +1,5 @@
-// The condition walker. A condition is walked together with its sign from the place's state to another, and adds its rows.
+// The condition walker. A condition is walked together with its sign from the emitter's state to another, and adds its rows. The sign is a
+// flag, as document 01 names it.
 ghost use Rattle.std.specs.Prelude.{◌+◌, ◌≤◌, ◌<◌, ◌≡◌, List, [], ◌∷◌, length, get_or, ℕ};
 ghost use Rattle.construction.specs.Construction.{all_symbols, without, symbol_rows};
 ghost use Rattle.compiler.specs.Inside.Writing.{Held, Room, Adds};
@@ -32,7 +33,7 @@ fn nth(i: usize, letters: usize) -> u8
 fn walked_as_is(equal: bool, sign: bool) -> bool
     ensures { result ≡ walked_as equal sign }
 {
-    if equal { sign } else { !sign }
+    equal == sign
 }
 
 impl Image<'_> {

@@ -19,7 +19,8 @@ fn two_bytes(n: usize) -> [u8; 2]
     (n as u16).to_be_bytes()
 }
 
-// These bytes from this place on.
+// These bytes from this place on. `line` and `saving` have such a function too: one that crates share has no `requires`, and would have to
+// say what it does where the bytes don't fit.
 fn put(out: &mut [u8], at: usize, bytes: &[u8])
     requires { at + length bytes.now ≤ length out.old }
     ensures { out.new ≡ over out.old at bytes.now }
@@ -59,7 +60,9 @@ fn find(bytes: &[u8], byte: u8) -> usize
     bytes.iter().position(|b| *b == byte).unwrap_or(bytes.len())
 }
 
-// An image with its header, and the byte of it at which the next row is written.
+// An image with its header, and the byte of it at which the next row is written. (That the header stands is `Held` in the contracts, of
+// the methods that need it: others write before it does. That a row's states are at most 128 stands there too, since a row's two states
+// come from the emitter one by one.)
 #[derive(Drop)]
 pub struct Image<'a> {
     pub out: &'a mut [u8],
