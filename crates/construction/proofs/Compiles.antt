@@ -7,7 +7,7 @@ use mathlib.Core.List.{List, ◌++◌}
 use lib.ListN.{length, drop}
 use Rattle.table.specs.Image.{encode}
 use Rattle.std.specs.Prelude.{Result, Ok, Err}
-use Rattle.table.specs.Refusal.{First, number_of}
+use Rattle.table.specs.Refusal.{First}
 use Rattle.table.specs.declared.reason.Refusal.{Refusal}
 use Rattle.table.proofs.Image.{length-encode}
 use Rattle.table.proofs.Reasons.{refusal_once}
@@ -24,14 +24,11 @@ use Rattle.construction.specs.declared.Sizes.{Sizes}
 use Rattle.construction.proofs.SetBit.{length_accept}
 
 module _ {text before after after' : List ℕ} where
-  refused_once : {r s : Refusal}
-      → Refused text before after (number_of r.reason) r.place
-      → Refused text before after' (number_of s.reason) s.place
-      → (after ≡ after') × (r ≡ s)
+  refused_once : {n m p q : ℕ} → Refused text before after n p → Refused text before after' m q → (after ≡ after') × (n ≡ m) × (p ≡ q)
   refused_once a b =
       let single : Each Single (reasons text before) = (single_at_zero, (single_at_zero, single_text text _ _)) in
       let same = first_once (reasons text before) single a.first b.first in
-      (a.unchanged ∙ sym b.unchanged, refusal_once same.0 same.1)
+      (a.unchanged ∙ sym b.unchanged, same.0, same.1)
 
   compiled_once : {s s' : Sizes}
       → Compiled text before after s.bytes s.states s.rows
@@ -64,7 +61,9 @@ pub compiles_once : {text before after after' : List ℕ} (x y : Result Sizes Re
 compiles_once (Ok s) (Ok s') a b = let same = compiled_once a.right b.right in (same.0, ap (λ (t : Sizes). Ok t) same.1)
 compiles_once (Ok s) (Err r) a b = absurd (never_both a.right b.right)
 compiles_once (Err r) (Ok s) a b = absurd (never_both b.right a.right)
-compiles_once (Err r) (Err q) a b = let same = refused_once a.right b.right in (same.0, ap (λ (t : Refusal). Err t) same.1)
+compiles_once (Err r) (Err q) a b =
+    let same = refused_once a.right b.right in
+    (same.0, ap (λ (t : Refusal). Err t) (refusal_once same.1 same.2))
 
 -- and so it is of the answer as one number
 pub compiles_to_once : {text before after after' : List ℕ} {r r' : ℕ}

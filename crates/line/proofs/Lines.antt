@@ -11,13 +11,11 @@ use Rattle.judgement.specs.declared.answer.Verdict.{Verdict}
 use Rattle.judgement.specs.declared.answer.Verdict.TheVariants.{Yes, No, LimitMet}
 use Rattle.judgement.specs.Verdict.{verdict_number}
 use Rattle.judgement.specs.Judge.{judged, refused}
-use Rattle.std.specs.Prelude.{Ok, Err}
-use Rattle.table.specs.declared.reason.Refusal.{Refusal}
-use Rattle.table.specs.Refusal.{number_of}
+use Rattle.std.specs.Prelude.{Ok}
 use Rattle.construction.specs.declared.Sizes.{Sizes}
 use Rattle.line.specs.Inside.Adding.{Adds}
 use Rattle.line.specs.Decimal.{decimal}
-use Rattle.line.specs.CompileLine.{compile_line}
+use Rattle.line.specs.CompileLine.{compile_line, refusal_line}
 use Rattle.line.specs.VerdictLine.{meaning, verdict_word, verdict_line, answer_with}
 use Rattle.line.proofs.Decimal.{decimal_short}
 
@@ -32,10 +30,10 @@ pub compiled_line : (s : Sizes)
 unfolding compile_line
 compiled_line s = simp append_assoc
 
-pub compile_refused_line : (r : Refusal) (number : ℕ) → number ≡ number_of r.reason
-    → spelling "no " ++ ((decimal number ++ (32 ∷ [])) ++ (decimal r.place ++ (10 ∷ []))) ≡ compile_line (Err r)
-unfolding compile_line
-compile_refused_line r number e = rw e (simp append_assoc)
+pub compile_refused_line : (number place : ℕ)
+    → spelling "no " ++ ((decimal number ++ (32 ∷ [])) ++ (decimal place ++ (10 ∷ []))) ≡ refusal_line number place
+unfolding refusal_line
+compile_refused_line number place = simp append_assoc
 
 -- the verdict program's line of a refusal
 pub verdict_refused_line : (number place : ℕ)

@@ -1,6 +1,6 @@
 // The compile program's line.
-ghost use Rattle.std.specs.Prelude.{◌≤◌, length, Ok, Err};
-ghost use Rattle.line.specs.CompileLine.{compile_line};
+ghost use Rattle.std.specs.Prelude.{◌≤◌, length, Ok};
+ghost use Rattle.line.specs.CompileLine.{compile_line, refusal_line};
 ghost use Rattle.line.specs.Standing.{Stands};
 
 use crate::parts::{add, number};
@@ -17,14 +17,13 @@ fn compiled(out: &mut [u8], sizes: Sizes) -> usize
     number(out, second, sizes.bytes, b'\n')
 }
 
-fn refused(out: &mut [u8], refusal: Refusal) -> usize
-    requires { 66 ≤ length out.old }
-    ensures { Stands out.old out.new result (compile_line (Err refusal)) }
+// Writes the line of a refusal's number and place, of whatever number, and answers the line's length.
+pub fn refusal_line(refusal: usize, place: usize, out: &mut [u8; 66]) -> usize
+    ensures { Stands out.old out.new result (refusal_line refusal place) }
 {
-    let named = refusal.reason.number();
     let start = add(out, 0, b"no ");
-    let first = number(out, start, usize::from(named), b' ');
-    number(out, first, refusal.place, b'\n')
+    let first = number(out, start, refusal, b' ');
+    number(out, first, place, b'\n')
 }
 
 // Writes the line of an answer, and answers the line's length.
@@ -33,6 +32,6 @@ pub fn compile_line(answer: Result<Sizes, Refusal>, out: &mut [u8; 66]) -> usize
 {
     match answer {
         Ok(sizes) => compiled(out, sizes),
-        Err(refusal) => refused(out, refusal),
+        Err(refusal) => refusal_line(usize::from(refusal.reason.number()), refusal.place, out),
     }
 }

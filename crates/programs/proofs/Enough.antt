@@ -16,6 +16,7 @@ use Rattle.std.specs.Prelude.{Result, Ok, Err}
 use Rattle.table.specs.Refusal.{number_of}
 use Rattle.table.specs.declared.reason.Refusal.{Refusal}
 use Rattle.construction.specs.declared.Sizes.{Sizes}
+use Rattle.judgement.specs.declared.answer.Judged.{Judged}
 use Rattle.judgement.specs.Judge as Judge
 use Rattle.judgement.specs.Judge.{Judges}
 
@@ -84,3 +85,18 @@ enough_of_an_image file word {limit} {before} {after} {result} j = by_cases (dec
           number = j.number;
         }
     by_cases (no short) = subst (λ (i : List ℕ). Judges i word limit before after result) (take_all 8247 file (omega arith)) j
+
+-- and so it is of the judge's answer in code
+pub enough_for_an_answer : (file word : List ℕ) {limit : ℕ} {before after : List ℕ} {answer : Result Judged Refusal}
+    → Judge.Answers (take 8247 file) word limit before after answer
+    → Judge.Answers file word limit before after answer
+enough_for_an_answer file word {limit} {before} {after} {answer} j = by_cases (dec_lt 8247 (length file))
+  where
+    by_cases : Dec (8247 < length file) → Judge.Answers file word limit before after answer
+    by_cases (yes long) =
+        record {
+          right =
+              longer_alike (take 8247 file) file word before after limit (Judge.answer_of answer)
+              (omega (arith, length-take-le 8247 file (omega arith))) (omega arith) j.right;
+        }
+    by_cases (no short) = subst (λ (i : List ℕ). Judge.Answers i word limit before after answer) (take_all 8247 file (omega arith)) j

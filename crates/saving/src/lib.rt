@@ -7,7 +7,7 @@ mod seen;
 ghost use Rattle.std.specs.Prelude.{◌+◌, ◌≤◌, ◌<◌, ◌≡◌, ◌++◌, true, length, take, drop, OnOk, is_ok};
 ghost use Rattle.std.specs.Io.KnownBytes.{Appends};
 ghost use Rattle.saving.specs.Names.{nameable};
-ghost use Rattle.saving.specs.Inside.Naming.{Named, Tried};
+ghost use Rattle.saving.specs.Inside.Naming.{Named, Ended, Tried};
 ghost use Rattle.saving.specs.Inside.Seen.{replaceable};
 
 use crate::seen::{Seen, Stands, at, behind};
@@ -53,14 +53,16 @@ fn put_bytes(buffer: &mut [u8], at: usize, bytes: &[u8])
     buffer[at..end].copy_from_slice(bytes);
 }
 
-// A name with these bytes behind it. (A vector of fixed size from the kit would be trusted anew.)
+// A name with these bytes behind it, in a buffer whose last byte is 0. (A vector of fixed size from the kit would be trusted anew.)
 fn with_behind(path: &[u8], more: &[u8]) -> [u8; 4096]
     requires { length path.now + length more.now ≤ 4095 }
-    ensures { Named result path.now more.now }
+    ensures named { Named result path.now more.now }
+    ensures ended { Ended result }
 {
     let mut name = [0u8; 4096];
     put_bytes(&mut name, 0, path);
     put_bytes(&mut name, path.len(), more);
+    name[4095] = 0;
     name
 }
 
