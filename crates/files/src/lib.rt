@@ -7,7 +7,7 @@ mod telling;
 
 ghost use Rattle.std.specs.Prelude.{◌<◌, ◌≤◌, ◌+◌, ◌≡◌, length, take, drop, IfOk};
 ghost use Rattle.std.specs.Io.KnownBytes.{Consumes, IsAtEnd};
-ghost use Rattle.files.specs.Reading.{Within, Comes};
+ghost use Rattle.files.specs.Reading.{Within, Comes, failed_of};
 
 pub use naming::{open, text};
 use std::io;
@@ -42,4 +42,11 @@ pub fn read_all<R: Read>(reader: &mut R, buf: &mut [u8]) -> io::Result<usize>
         n += k;
     }
     Ok(n)
+}
+
+// Whether a read failed.
+pub fn failed(input: &io::Result<usize>) -> bool
+    ensures { result ≡ failed_of input.now }
+{
+    input.is_err()
 }

@@ -157,39 +157,45 @@ fn remove<R: Files>(rt: &R, name: &[u8]) -> io::Result<()> {
     fs::remove_file(rt, text(name)?)
 }
 
-// Writes a new file of this name, up to its last byte, and gives it the path's name; or removes it.
-fn put_by<'a, R: Files>(
+// Writes a new file of this name, up to its last byte, and gives it the path's name; or says what failed and removes it.
+fn put_by<R: Files + AllocGlobal, W: Write>(
     rt: &R,
+    errors: &mut W,
     name: &mut [u8],
-    path: &'a [u8],
+    path: &[u8],
     content: &[u8],
     old_mode: Option<u32>,
-) -> Result<(), Unsaved<'a>>
+) -> bool
     requires { 0 < length name.old }
     ensures { Tried name.old name.new }
 {
     let file = match create(rt, name) {
         Ok(file) => file,
-        Err(error) => return Err(not_created(path, error)),
+        Err(error) => {
+            let _ = told(rt, errors, not_created(path, error));
+            return false;
+        }
     };
     if let Err(error) = put_new(rt, file, name, path, content, old_mode) {
+        let _ = fail(rt, errors, path, error);
         let _ = remove(rt, name);
-        return Err(Unsaved::Failed { name: path, error });
+        return false;
     }
-    Ok(())
+    true
 }
 
-fn put<'a, R: Files>(
+fn put<R: Files + AllocGlobal, W: Write>(
     rt: &R,
-    path: &'a [u8],
+    errors: &mut W,
+    path: &[u8],
     content: &[u8],
     old_mode: Option<u32>,
-) -> Result<(), Unsaved<'a>>
+) -> bool
     requires { nameable (length path.now) ≡ true }
 {
     let mut name = with_behind(path, b".new0");
     let n = path.len() + 5;
-    put_by(rt, &mut name[..n], path, content, old_mode)
+    put_by(rt, errors, &mut name[..n], path, content, old_mode)
 }
 
 // Whether what stands there is the file that was read. Where nothing stands, that need not be asked.
@@ -200,13 +206,12 @@ fn is_source<R: Files>(rt: &R, old: Option<Seen>, source: &str) -> io::Result<bo
     }
 }
 
-// Saves a file whole under a name where nothing stands, or a file that is not the one to which `source` leads.
-fn save_to<'a, R: Files>(
+// The mode of the file that stands at the name, if one does: a file can be saved there, and it is not the one to which `source` leads.
+fn replaced<'a, R: Files>(
     rt: &R,
     path: &'a [u8],
-    content: &[u8],
     source: &'a str,
-) -> Result<(), Unsaved<'a>>
+) -> Result<Option<u32>, Unsaved<'a>>
     ensures { OnOk result (nameable (length path.now) ≡ true) }
 {
     named(path)?;
@@ -216,7 +221,7 @@ fn save_to<'a, R: Files>(
         error,
     })?;
     may_replace(path, old.map(|seen| seen.kind()), rule)?;
-    put(rt, path, content, old.map(|seen| seen.mode))
+    Ok(old.map(|seen| seen.mode))
 }
 
 // Says what kept an image from being saved.
@@ -238,8 +243,8 @@ pub fn save<R: Files + AllocGlobal, W: Write>(
 ) -> bool
     ensures { result ≡ true → nameable (length path.now) ≡ true }
 {
-    match save_to(rt, path, content, source) {
-        Ok(()) => true,
+    match replaced(rt, path, source) {
+        Ok(old_mode) => put(rt, errors, path, content, old_mode),
         Err(why) => {
             let _ = told(rt, errors, why);
             false
