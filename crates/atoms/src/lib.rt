@@ -140,7 +140,7 @@ fn zero_at(text: &[u8], at: usize) -> Result<usize, Refusal>
     Ok(end)
 }
 
-// Whether digits are 0, without a leading zero.
+// Whether digits are 0, without a leading zero. (`reader` asks of other numbers whether they are too great; here 0 alone may stand.)
 fn is_zero(digits: &[u8]) -> bool
     requires { T (every is_digit digits.now) }
     ensures { result ≡ (in_form digits.now && leb (value_from 0 digits.now) 0) }

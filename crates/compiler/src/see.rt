@@ -13,7 +13,7 @@ pub struct Cursor<'a> {
     pub at: usize,
 }
 
-// Where a token ends; None where none stands.
+// Where a token ends; None where none stands. (No method of `Token`: `text` has definitions and no functions.)
 pub fn end_of(token: Token) -> Option<usize>
     ensures { result ≡ end_of token }
 {
@@ -77,7 +77,7 @@ impl Cursor<'_> {
         true
     }
 
-    // Past a word; which it is.
+    // Past a word; which it is. (This, `letter` and `number` each take their own sort of token apart, as the readers do.)
     pub fn word(&mut self) -> Word
         requires { AtWord self.old }
         ensures { ReadsWord self.old self.new result }

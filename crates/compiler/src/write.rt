@@ -52,7 +52,7 @@ pub fn header(out: &mut [u8], count: usize, decr_on_zero: bool, counts: Counts)
     put(out, count + form::ROWS_TAG, &[6, high, low]);
 }
 
-// How many bytes stand before the first that is this one.
+// How many bytes stand before the first that is this one; all, where none is, as the definition has it.
 fn find(bytes: &[u8], byte: u8) -> usize
     ensures index { result ≡ index_in bytes.now byte }
     ensures inside { result ≤ length bytes.now }
@@ -70,7 +70,7 @@ pub struct Image<'a> {
 }
 
 impl Image<'_> {
-    // A row. The next one is written where it ends.
+    // A row. The next one is written where it ends. (The way back, of any bytes, is `rows::row_here`.)
     pub fn add(&mut self, row: Row)
         requires { Room self.old.out.now self.old.row (λ _. row_is row ∷ []) × (row.from ≤ 128) × (row.to ≤ 128) }
         ensures { Adds self.old self.new (λ _. row_is row ∷ []) }
@@ -107,7 +107,7 @@ impl Image<'_> {
         self.add_test(from, form::ANY_SYMBOL, form::EITHER_COUNTER, to);
     }
 
-    // How many letters the image has.
+    // How many letters the image has. (`fields::letter_count` is of any bytes, and here the header stands.)
     pub fn letters(&self) -> usize
         requires { Held self.now.out.now }
         ensures { HasLetters self.now.out.now result }

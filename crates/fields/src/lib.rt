@@ -68,7 +68,7 @@ pub fn state_count(image: &[u8]) -> usize
     two_at(image, letters(image) as usize + form::STATES_PLACE)
 }
 
-// Whether state s accepts.
+// Whether state s accepts. (Not by `bits::bit_at`, whose place of a bit would count the bytes before the field eight times over.)
 pub fn accepts(image: &[u8], s: usize) -> bool
     ensures { Tells result (Accepting (table_of image.now) s) }
 {

@@ -56,6 +56,7 @@ enum Try {
 // Where a pending bit may stand: bit g % 64 of word g / 64 is for the 128 situations from 128 * g on, and bit w of the last word for
 // word w. The hints only save time, and nothing rests on them: a hint that says too much is dropped, and where they say nothing every
 // bit is looked at.
+// (One array, since the last word is found, set and cleared like the others.)
 #[derive(Drop)]
 pub struct Hints {
     words: [u64; 33],

@@ -30,6 +30,7 @@ struct Shown {
     at: usize,
 }
 
+// The marks, the hints and whether the limit was met go beside it, since they change and it does not.
 // What is searched: a table by its image, by the rows of a source, with a word and a limit. (That these can be searched stands in the
 // contracts: as ghost fields of this struct it was tried, and refused, since `Ready` and `Sources` are more than propositions.)
 #[derive(Clone, Copy)]

@@ -33,7 +33,8 @@ impl<'a> Reader<'a> {
     ghost use Rattle.rule.specs.Inside.Class.{Fixed, spell};
     ghost use Rattle.reader.specs.Inside.Answers.{Starts, Onward, Counted, Took, Refuses, Takes};
 
-    // At the first byte. State 0 is the start.
+    // At the first byte. State 0 is the start. (That the text is short stands in the contracts on the way here, and is a ghost field from
+    // here on.)
     pub fn new(text: &'a [u8]) -> Reader<'a>
         requires { length text.now ≤ 4096 }
         ensures { Starts text.now result }

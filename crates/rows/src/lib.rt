@@ -1,5 +1,6 @@
 // The rows of an image, read where they stand, and where a source shows those that leave a state.
-// A reader takes any bytes for rows; a byte past the end counts as 0.
+// A reader takes any bytes for rows; a byte past the end counts as 0. (`rows, at` are no struct: the readers are public as they are, in
+// docs/PROMISES.md.)
 #![tactic(auto)]
 
 ghost use Rattle.std.specs.Prelude.{◌≡◌, ◌+◌, ◌*◌, ◌≤◌, length, eqb};

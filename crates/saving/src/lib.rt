@@ -140,7 +140,7 @@ fn written_and_closed<F: Write + OpenFile + Drop>(
     written(&mut file, content, old_mode)
 }
 
-// Writes the new file of this name, and gives it the path's name.
+// Writes the new file of this name, and gives it the path's name. (Each step takes other ones of these, so no struct holds them.)
 fn put_new<R: Files>(
     rt: &R,
     file: R::File,

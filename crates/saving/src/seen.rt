@@ -38,6 +38,7 @@ pub enum Stands {
     Other,
 }
 
+// (No `From`: nothing but these two functions converts.)
 fn told(metadata: &Metadata) -> Seen {
     Seen {
         mode: metadata.mode(),
@@ -63,6 +64,7 @@ pub fn at<R: Files>(rt: &R, name: &[u8]) -> io::Result<Option<Seen>> {
 }
 
 impl Seen {
+    // What it is. By its mode, of which the definition speaks.
     pub fn kind(self) -> Stands
         ensures { result ≡ stands_of self.mode }
     {
@@ -74,6 +76,7 @@ impl Seen {
         }
     }
 
+    // Whether both are one file.
     pub fn same(self, other: Seen) -> bool
         ensures { result ≡ same_file self other }
     {

@@ -1,4 +1,5 @@
-// What stands at a byte of a text: white space or a comment, a token, or nothing that may stand there.
+// What stands at a byte of a text: white space or a comment, a token, or nothing that may stand there. That the byte is in the text stands in
+// each contract: a struct of both for it would be made anew at every byte.
 ghost use Rattle.std.specs.Prelude.{◌≡◌, ◌<◌, T, length, get_or};
 ghost use Rattle.bits.specs.Byte.{is_digit};
 ghost use Rattle.text.specs.Token.{begins_word, quote};

@@ -44,7 +44,8 @@ fn read(rt: &HostRuntime, path: &[u8], image: &mut [u8; 8247]) -> io::Result<usi
     files::read_all(&mut file, image)
 }
 
-// Nothing where an argument is missing, too long for a name, or no number.
+// Nothing where an argument is missing, too long for a name, or no number. (Each is read into a buffer: the library's list of all arguments
+// needs a heap and makes texts of them.)
 fn judged(rt: &HostRuntime) -> Option<()> {
     let mut path = [0u8; 4096];
     let path_len = rt.arg(1, &mut path).ok()?;
