@@ -64,9 +64,6 @@ module _ (image : List ℕ) (long : letters_of image + letters_place ≤ length 
   back : RowInRange (table_of image) r → RowInRange (table_of image) (row_is row)
   back right = subst (RowInRange (table_of image)) (sym is) right
 
-  pub row_states : RowInRange (table_of image) r → StatesRight (table_of image) row.from row.to
-  row_states right = ((back right).from, (back right).not_accepting, (back right).to)
-
   row_codes : RowInRange (table_of image) r → CodesRight (letters_of image) row
   row_codes right = (
     rw (alphabet_length image long) at (back right).symbol,

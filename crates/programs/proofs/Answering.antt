@@ -68,11 +68,6 @@ answers_said {image} {word} {digits} {before} {after} {old} {line} {end} limit t
       unsaid = λ none. absurd (none limit this);
     }
 
-pub answers_unsaid : {image word digits marks line : List ℕ}
-    → ((limit : ℕ) → ¬ SaysLimit digits limit)
-    → AnswersWord image word digits marks marks line line None
-answers_unsaid none = record { answered = λ limit says_limit. absurd (none limit says_limit); unsaid = λ _. (refl, refl, refl) }
-
 -- so many bytes are a number of the image buffer's and of the line's
 image_counts : {text before after : List ℕ} (answer : Result Sizes Refusal) → Compiles text before after answer
     → IfSome (image_bytes answer) (λ n. IsPrefixLen n after)

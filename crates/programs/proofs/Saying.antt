@@ -2,14 +2,14 @@
 use Prim.Native.Nat.{ℕ, suc, ◌+◌, ◌*◌, ◌-◌, ◌^◌, ◌≤◌, ◌<◌}
 use native.Mathlib.Omega.{arith}
 use native.Mathlib.Numerals.{add-one}
-use native.Mathlib.Nat.{pow-suc, pow-le-pow_right}
-use mathlib.Core.Path.{◌≡◌, refl, sym, ap, ◌∙◌, subst}
-use mathlib.Core.Bool.{Bool, true, false, ◌&&◌}
+use native.Mathlib.Nat.{pow-suc}
+use mathlib.Core.Path.{◌≡◌, sym, ap, ◌∙◌, subst}
+use mathlib.Core.Bool.{Bool, true, ◌&&◌}
 use mathlib.Core.List.{List, []}
 use lib.ListN.{length, drop, get_or, drop_of_length-le}
 use lib.Seq.{drop-cons}
-use lib.Dec.{T, leb}
-use borrow.Author.Tests.{le-leb, lt-leb}
+use lib.Dec.{T}
+use borrow.Author.Tests.{le-leb}
 use Rattle.bits.specs.Byte.{is_digit}
 use Rattle.text.specs.Token.{every}
 use Rattle.rule.specs.Limits.{value_from}
@@ -22,31 +22,13 @@ pub record Halfway (digits : List ℕ) (value i : ℕ) : Type 0 where
   pub rest : value_from value (drop i digits) ≡ value_from 0 digits
   pub each : every is_digit (drop i digits) ≡ every is_digit digits
 
-pub halfway_none : (digits : List ℕ) → Halfway digits 0 0
-halfway_none digits = record { inside = omega arith; low = omega arith; rest = refl; each = refl }
-
 -- the next byte is a digit exactly if it is from 48 to 57
 digit_true : (b : ℕ) → 48 ≤ b → b ≤ 57 → is_digit b ≡ true
 digit_true b low high = simp (le-leb 48 b low, le-leb b 57 high)
 
-pub digit_low : (b : ℕ) → b < 48 → is_digit b ≡ false
-digit_low b low = simp (lt-leb 48 b low)
-
-pub digit_high : (b : ℕ) → 57 < b → is_digit b ≡ false
-digit_high b high = by_cases (leb 48 b)
-  where
-    by_cases : (t : Bool) → (t && leb b 57) ≡ false
-    by_cases true = lt-leb b 57 high
-    by_cases false = refl
-
 module _ (digits : List ℕ) (value i : ℕ) (half : Halfway digits value i) (more : i < length digits) where
   next_each : every is_digit digits ≡ (is_digit (get_or digits i 0) && every is_digit (drop (suc i) digits))
   next_each = sym half.each ∙ ap (every is_digit) (drop-cons digits i 0 more)
-
-  -- a byte that is no digit: they say no limit
-  pub not_digit : is_digit (get_or digits i 0) ≡ false → (limit : ℕ) → ¬ SaysLimit digits limit
-  not_digit other limit said =
-      subst T (next_each ∙ ap (λ (t : Bool). t && every is_digit (drop (suc i) digits)) other) said.each
 
   pub halfway_next : (next : ℕ) → 48 ≤ get_or digits i 0 → get_or digits i 0 ≤ 57
       → next ≡ 10 * value + (get_or digits i 0 - 48)
@@ -63,13 +45,6 @@ module _ (digits : List ℕ) (value i : ℕ) (half : Halfway digits value i) (mo
         rest = rw (add-one i) (ap (λ (n : ℕ). value_from n (drop (suc i) digits)) is ∙ sym whole);
         each = rw (add-one i) (sym (next_each ∙ digit));
       }
-
--- three digits say a number below a thousand
-pub halfway_small : {digits : List ℕ} {value i : ℕ} → Halfway digits value i → length digits ≤ 3 → value < 1000
-halfway_small {digits} {value} {i} half few =
-    let short : i ≤ 3 = omega (arith, half.inside) in
-    let most : 10 ^ i ≤ 10 ^ 3 = pow-le-pow_right {n = 10} (omega arith) short in
-    omega (arith, half.low)
 
 -- all of them are read
 pub halfway_done : {digits : List ℕ} {value i : ℕ}
