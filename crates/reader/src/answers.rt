@@ -101,19 +101,42 @@ impl<'a> Reader<'a> {
         }
     }
 
-    // One word and no other. This and `sign` stay two functions, since each reader takes its own sort of token apart by let .. else.
-    pub fn word(self, wanted: Word) -> Result<Reader<'a>, Refusal>
-        ensures { (l : List ℕ) (m : Fixed) → name wanted ≡ reserved l → spell m ≡ Spelt.word l → Takes m self.entry result }
+    // It is behind this token: that is this word and no other. Where one of several may stand, the token is read once and asked for each,
+    // since reading it again would go over all that stands before it again. This and `after_sign` stay two functions, since each takes its
+    // own sort of token apart by let .. else.
+    pub fn after_word(self, token: Token, wanted: Word) -> Result<Reader<'a>, Refusal>
+        ensures { (r : Reader) → Took r token self.entry → (l : List ℕ) (m : Fixed) → name wanted ≡ reserved l → spell m ≡ Spelt.word l → Takes m r result }
     {
-        let (token, behind) = self.next();
         let Token::Word { word, .. } = token else {
             return Err(refuse(token));
         };
         if word == wanted {
-            Ok(behind)
+            Ok(self)
         } else {
             Err(refuse(token))
         }
+    }
+
+    // The same of this sign.
+    pub fn after_sign(self, token: Token, wanted: Sign) -> Result<Reader<'a>, Refusal>
+        ensures { (r : Reader) → Took r token self.entry → (m : Fixed) → spell m ≡ Spelt.sign (written wanted) → Takes m r result }
+    {
+        let Token::Sign { sign, .. } = token else {
+            return Err(refuse(token));
+        };
+        if sign == wanted {
+            Ok(self)
+        } else {
+            Err(refuse(token))
+        }
+    }
+
+    // One word and no other.
+    pub fn word(self, wanted: Word) -> Result<Reader<'a>, Refusal>
+        ensures { (l : List ℕ) (m : Fixed) → name wanted ≡ reserved l → spell m ≡ Spelt.word l → Takes m self.entry result }
+    {
+        let (token, behind) = self.next();
+        behind.after_word(token, wanted)
     }
 
     // One sign and no other.
@@ -121,13 +144,6 @@ impl<'a> Reader<'a> {
         ensures { (m : Fixed) → spell m ≡ Spelt.sign (written wanted) → Takes m self.entry result }
     {
         let (token, behind) = self.next();
-        let Token::Sign { sign, .. } = token else {
-            return Err(refuse(token));
-        };
-        if sign == wanted {
-            Ok(behind)
-        } else {
-            Err(refuse(token))
-        }
+        behind.after_sign(token, wanted)
     }
 }

@@ -56,17 +56,18 @@ impl<'a> Reader<'a> {
     fn operand(self, scope: Scope) -> Result<Reader<'a>, Refusal>
         ensures { ReadsOn self.entry (operand scope.depth ∷ []) [] (alphabet_of scope.letters) result }
     {
-        if let Ok(inside) = self.sign(Sign::OpenParen) {
+        let (token, behind) = self.next();
+        if let Ok(inside) = behind.after_sign(token, Sign::OpenParen) {
             let Some(inner) = scope.opened() else {
                 return Err(self.refusal(Reason::Depth));
             };
             return inside.condition(inner);
         }
-        if let Ok(behind) = self.sign(Sign::Not) {
+        if let Ok(negated) = behind.after_sign(token, Sign::Not) {
             let Some(inner) = scope.opened() else {
                 return Err(self.refusal(Reason::Depth));
             };
-            return behind.operand(inner);
+            return negated.operand(inner);
         }
         self.atom(scope.letters)
     }
@@ -79,10 +80,12 @@ impl<'a> Reader<'a> {
         let mut reader = self;
         loop {
             let read = reader.operand(scope)?;
-            if let Ok(behind) = read.sign(Sign::CloseParen) {
-                return Ok(behind);
+            let (token, behind) = read.next();
+            if let Ok(closed) = behind.after_sign(token, Sign::CloseParen) {
+                return Ok(closed);
             }
-            let joined = read.sign(Sign::And).or(read.sign(Sign::Or))?;
+            let and = behind.after_sign(token, Sign::And);
+            let joined = and.or(behind.after_sign(token, Sign::Or))?;
             reader = joined.counting(1, 0);
         }
     }

@@ -34,7 +34,9 @@ impl<'a> Reader<'a> {
         ensures { (a : List ℕ) → ReadsOn self.entry (exact Fixed.opens ∷ end ∷ []) [] a result }
     {
         let inside = self.sign(Sign::OpenParen)?;
-        let mark = inside.word(Word::Lend).or(inside.word(Word::Rend))?;
+        let (token, behind) = inside.next();
+        let lend = behind.after_word(token, Word::Lend);
+        let mark = lend.or(behind.after_word(token, Word::Rend))?;
         mark.close()
     }
 
@@ -42,11 +44,14 @@ impl<'a> Reader<'a> {
     pub fn behind_c(self) -> Result<Reader<'a>, Refusal>
         ensures { (a : List ℕ) → ReadsOn self.entry (change ∷ []) [] a result }
     {
-        let one = self.sign(Sign::Increment).or(self.sign(Sign::Decrement));
-        if let Ok(behind) = one {
-            return behind.sign(Sign::Semicolon);
+        let (token, behind) = self.next();
+        let up = behind.after_sign(token, Sign::Increment);
+        let one = up.or(behind.after_sign(token, Sign::Decrement));
+        if let Ok(changed) = one {
+            return changed.sign(Sign::Semicolon);
         }
-        let many = self.sign(Sign::Add).or(self.sign(Sign::Subtract))?;
+        let add = behind.after_sign(token, Sign::Add);
+        let many = add.or(behind.after_sign(token, Sign::Subtract))?;
         many.number(31)?.sign(Sign::Semicolon)
     }
 }

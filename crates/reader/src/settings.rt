@@ -41,10 +41,11 @@ impl<'a> Reader<'a> {
         let mut listed = Letters::none();
         loop {
             let (behind, more) = reader.letter(listed)?;
-            if let Ok(closed) = behind.sign(Sign::CloseBracket) {
+            let (token, next) = behind.next();
+            if let Ok(closed) = next.after_sign(token, Sign::CloseBracket) {
                 return Ok((closed, more));
             }
-            reader = behind.sign(Sign::Comma)?;
+            reader = next.after_sign(token, Sign::Comma)?;
             listed = more;
         }
     }
@@ -63,7 +64,9 @@ impl<'a> Reader<'a> {
         ensures { (a : List ℕ) → ReadsOn self.entry (exact Fixed.equals ∷ truth ∷ []) [] a result }
     {
         let is = self.sign(Sign::Becomes)?;
-        let said = is.word(Word::True).or(is.word(Word::False))?;
+        let (token, behind) = is.next();
+        let yes = behind.after_word(token, Word::True);
+        let said = yes.or(behind.after_word(token, Word::False))?;
         said.sign(Sign::Semicolon)
     }
 }
@@ -74,10 +77,11 @@ pub fn settings_of(text: &[u8]) -> Result<(Reader<'_>, Letters), Refusal>
     ensures { AnswersWith text.now (spot 0 (program ∷ []) start) (body ∷ []) result }
 {
     let first = Reader::new(text);
-    if let Ok(decrement) = first.word(Word::DecrOnZero) {
+    let (token, behind) = first.next();
+    if let Ok(decrement) = behind.after_word(token, Word::DecrOnZero) {
         return decrement.truth()?.word(Word::Alphabet)?.alphabet();
     }
-    let (reader, letters) = first.word(Word::Alphabet)?.alphabet()?;
+    let (reader, letters) = behind.after_word(token, Word::Alphabet)?.alphabet()?;
     let decrement = reader.word(Word::DecrOnZero)?;
     Ok((decrement.truth()?, letters))
 }

@@ -81,10 +81,12 @@ impl<'a> Reader<'a> {
     fn behind_while(self, scope: Scope) -> Result<Reader<'a>, Refusal>
         ensures { ReadsOn self.entry (loop scope.depth ∷ []) [] (alphabet_of scope.letters) result }
     {
-        if let Ok(chosen) = self.word(Word::Choose) {
+        let (token, behind) = self.next();
+        if let Ok(chosen) = behind.after_word(token, Word::Choose) {
             return chosen.counting(2, 3).block(scope);
         }
-        self.sign(Sign::OpenParen)?.counting(2, 1).guarded(scope)
+        let opened = behind.after_sign(token, Sign::OpenParen)?;
+        opened.counting(2, 1).guarded(scope)
     }
 
     // Arms, from two to eight: they are counted, since a ninth is refused.

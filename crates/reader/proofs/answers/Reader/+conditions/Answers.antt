@@ -18,13 +18,13 @@ condition-returns-in_err-read t c = rw (exit _ c.from_residual.ensures.1) (onwar
 
 pub condition-returns-in-Ok : goal.condition-returns-in-Ok
 condition-returns-in-Ok t c =
-    let closes = taken (c.sign.ensures Fixed.closes refl) c.in-Ok.is in
+    let closes = taken (c.after_sign.ensures _ c.next-token.ensures Fixed.closes refl) c.in-Ok.is in
     arrived (arrives_on c.loop-read.invariant (arrives_on (went _ c.operand.ensures c.in_ok-read.was) (took_with closes _ refl refl refl)))
 
 pub condition-returns-in_err-joined : goal.condition-returns-in_err-joined
 condition-returns-in_err-joined t c =
-    let closes = missed_one (c.sign.ensures Fixed.closes refl) c.in_default.is in
-    let none = neither_taken (c.sign-in-loop-read.ensures Fixed.and refl) (c.sign-in-loop-read-2.ensures Fixed.or refl) c.or.ensures c.in_err-joined.was in
+    let closes = missed_one (c.after_sign.ensures _ c.next-token.ensures Fixed.closes refl) c.in_default.is in
+    let none = neither_taken (c.after_sign-and.ensures _ c.next-token.ensures Fixed.and refl) (c.after_sign-in-loop-read.ensures _ c.next-token.ensures Fixed.or refl) c.or.ensures c.in_err-joined.was in
     let it = none.1 in
     rw
     (exit _ c.from_residual-in_err-joined.ensures.1)
@@ -36,18 +36,18 @@ condition-returns-in_err-joined t c =
 
 pub condition-counting-reader-requires : goal.condition-counting-reader-requires
 condition-counting-reader-requires t c =
-    let one = either_taken (c.sign-in-loop-read.ensures Fixed.and refl) (c.sign-in-loop-read-2.ensures Fixed.or refl) c.or.ensures c.in_ok-joined.was in
+    let one = either_taken (c.after_sign-and.ensures _ c.next-token.ensures Fixed.and refl) (c.after_sign-in-loop-read.ensures _ c.next-token.ensures Fixed.or refl) c.or.ensures c.in_ok-joined.was in
     either_room one (omega arith) (omega arith)
 
 pub condition-loop-read-smaller : goal.condition-loop-read-smaller
 condition-loop-read-smaller t c =
-    let one = either_taken (c.sign-in-loop-read.ensures Fixed.and refl) (c.sign-in-loop-read-2.ensures Fixed.or refl) c.or.ensures c.in_ok-joined.was in
+    let one = either_taken (c.after_sign-and.ensures _ c.next-token.ensures Fixed.and refl) (c.after_sign-in-loop-read.ensures _ c.next-token.ensures Fixed.or refl) c.or.ensures c.in_ok-joined.was in
     let read = went_no_nearer c.loop-read.reader c.operand.ensures c.in_ok-read.was in
     omega (arith, read, either_nearer one c.counting-reader.ensures)
 
 pub condition-loop-read-preserved : goal.condition-loop-read-preserved
 condition-loop-read-preserved t c =
-    let one = either_taken (c.sign-in-loop-read.ensures Fixed.and refl) (c.sign-in-loop-read-2.ensures Fixed.or refl) c.or.ensures c.in_ok-joined.was in
+    let one = either_taken (c.after_sign-and.ensures _ c.next-token.ensures Fixed.and refl) (c.after_sign-in-loop-read.ensures _ c.next-token.ensures Fixed.or refl) c.or.ensures c.in_ok-joined.was in
     arrives_on
     c.loop-read.invariant
     (arrives_on
@@ -59,43 +59,43 @@ condition-loop-read-preserved t c =
 
 pub operand-returns-in_default-opened : goal.operand-returns-in_default-opened
 operand-returns-in_default-opened t c =
-    break_here (taken (c.sign.ensures Fixed.opens refl) c.in-Ok.is) c.refusal.ensures refl (full c.args.scope c.opened.ensures c.in_default-opened.is) refl
+    break_here (taken (c.after_sign.ensures _ c.next-token.ensures Fixed.opens refl) c.in-Ok.is) c.refusal.ensures refl (full c.args.scope c.opened.ensures c.in_default-opened.is) refl
 
 pub operand-condition-requires : goal.operand-condition-requires
-operand-condition-requires t c = (omega (arith, c.decreases, nearer (taken (c.sign.ensures Fixed.opens refl) c.in-Ok.is)), tt)
+operand-condition-requires t c = (omega (arith, c.decreases, nearer (taken (c.after_sign.ensures _ c.next-token.ensures Fixed.opens refl) c.in-Ok.is)), tt)
 
 pub operand-returns-in-Ok : goal.operand-returns-in-Ok
 operand-returns-in-Ok t c =
     let opened = c.opened.ensures in
     let inner = c.in-Some.is in
     onward
-    (took_with (taken (c.sign.ensures Fixed.opens refl) c.in-Ok.is) _ refl (shallow_lem c.args.scope opened inner) refl)
+    (took_with (taken (c.after_sign.ensures _ c.next-token.ensures Fixed.opens refl) c.in-Ok.is) _ refl (shallow_lem c.args.scope opened inner) refl)
     (rw (one_deeper c.args.scope opened inner, same_letters c.args.scope opened inner) at c.condition.ensures)
 
 pub operand-returns-in_default-opened-2 : goal.operand-returns-in_default-opened-2
 operand-returns-in_default-opened-2 t c =
     break_here
-    (taken (c.sign-2.ensures Fixed.not refl) c.in-Ok-sign.is)
+    (taken (c.after_sign-2.ensures _ c.next-token.ensures Fixed.not refl) c.in-Ok-after_sign.is)
     c.refusal-in_default-opened-2.ensures
     refl
-    (full c.args.scope c.opened-in-Ok-sign.ensures c.in_default-opened-2.is)
+    (full c.args.scope c.opened-in-Ok-after_sign.ensures c.in_default-opened-2.is)
     refl
 
 pub operand-operand-requires : goal.operand-operand-requires
-operand-operand-requires t c = (omega (arith, c.decreases, nearer (taken (c.sign-2.ensures Fixed.not refl) c.in-Ok-sign.is)), tt)
+operand-operand-requires t c = (omega (arith, c.decreases, nearer (taken (c.after_sign-2.ensures _ c.next-token.ensures Fixed.not refl) c.in-Ok-after_sign.is)), tt)
 
-pub operand-returns-in-Ok-sign : goal.operand-returns-in-Ok-sign
-operand-returns-in-Ok-sign t c =
-    let opened = c.opened-in-Ok-sign.ensures in
+pub operand-returns-in-Ok-after_sign : goal.operand-returns-in-Ok-after_sign
+operand-returns-in-Ok-after_sign t c =
+    let opened = c.opened-in-Ok-after_sign.ensures in
     let inner = c.in-Some-opened.is in
     onward
-    (took_with (taken (c.sign-2.ensures Fixed.not refl) c.in-Ok-sign.is) _ refl (shallow_lem c.args.scope opened inner) refl)
+    (took_with (taken (c.after_sign-2.ensures _ c.next-token.ensures Fixed.not refl) c.in-Ok-after_sign.is) _ refl (shallow_lem c.args.scope opened inner) refl)
     (rw (one_deeper c.args.scope opened inner, same_letters c.args.scope opened inner) at c.operand.ensures)
 
 pub operand-atom-requires : goal.operand-atom-requires
 operand-atom-requires t c = (
-  (missed_one (c.sign.ensures Fixed.opens refl) c.in_default.is).lacks,
-  (missed_one (c.sign-2.ensures Fixed.not refl) c.in_default-sign.is).lacks,
+  (missed_one (c.after_sign.ensures _ c.next-token.ensures Fixed.opens refl) c.in_default.is).lacks,
+  (missed_one (c.after_sign-2.ensures _ c.next-token.ensures Fixed.not refl) c.in_default-after_sign.is).lacks,
 )
 
 pub operand-returns : goal.operand-returns

@@ -83,36 +83,36 @@ behind_if-returns-in-Err t c =
 
 pub behind_while-counting-requires : goal.behind_while-counting-requires
 behind_while-counting-requires t c =
-    room (taken (c.word.ensures _ Fixed.choose refl refl) c.in-Ok.is) (omega arith) (omega arith)
+    room (taken (c.after_word.ensures _ c.next-token.ensures _ Fixed.choose refl refl) c.in-Ok.is) (omega arith) (omega arith)
 
 pub behind_while-block-requires : goal.behind_while-block-requires
 behind_while-block-requires t c =
-    (omega (arith, c.decreases, counted_nearer (taken (c.word.ensures _ Fixed.choose refl refl) c.in-Ok.is) c.counting.ensures), tt)
+    (omega (arith, c.decreases, counted_nearer (taken (c.after_word.ensures _ c.next-token.ensures _ Fixed.choose refl refl) c.in-Ok.is) c.counting.ensures), tt)
 
 pub behind_while-returns-in-Ok : goal.behind_while-returns-in-Ok
 behind_while-returns-in-Ok t c =
-    onward (took_counted (taken (c.word.ensures _ Fixed.choose refl refl) c.in-Ok.is) _ c.counting.ensures refl refl refl) c.block.ensures
+    onward (took_counted (taken (c.after_word.ensures _ c.next-token.ensures _ Fixed.choose refl refl) c.in-Ok.is) _ c.counting.ensures refl refl refl) c.block.ensures
 
-pub behind_while-returns-in_err-sign : goal.behind_while-returns-in_err-sign
-behind_while-returns-in_err-sign t c =
+pub behind_while-returns-in_err-opened : goal.behind_while-returns-in_err-opened
+behind_while-returns-in_err-opened t c =
     rw
     (exit _ c.from_residual.ensures.1)
     (refuses_both
-    (missed_one (c.sign.ensures Fixed.opens refl) c.in_err-sign.was)
-    (missed_one (c.word.ensures _ Fixed.choose refl refl) c.in_default.is).lacks
+    (missed_one (c.after_sign.ensures _ c.next-token.ensures Fixed.opens refl) c.in_err-opened.was)
+    (missed_one (c.after_word.ensures _ c.next-token.ensures _ Fixed.choose refl refl) c.in_default.is).lacks
     (λ p k l r. (r, (l, tt))))
 
 pub behind_while-counting-requires-2 : goal.behind_while-counting-requires-2
 behind_while-counting-requires-2 t c =
-    room (taken (c.sign.ensures Fixed.opens refl) c.in_ok-sign.was) (omega arith) (omega arith)
+    room (taken (c.after_sign.ensures _ c.next-token.ensures Fixed.opens refl) c.in_ok-opened.was) (omega arith) (omega arith)
 
 pub behind_while-guarded-requires : goal.behind_while-guarded-requires
 behind_while-guarded-requires t c =
-    (omega (arith, c.decreases, counted_nearer (taken (c.sign.ensures Fixed.opens refl) c.in_ok-sign.was) c.counting-2.ensures), tt)
+    (omega (arith, c.decreases, counted_nearer (taken (c.after_sign.ensures _ c.next-token.ensures Fixed.opens refl) c.in_ok-opened.was) c.counting-2.ensures), tt)
 
 pub behind_while-returns : goal.behind_while-returns
 behind_while-returns t c =
-    onward (took_counted (taken (c.sign.ensures Fixed.opens refl) c.in_ok-sign.was) _ c.counting-2.ensures refl refl refl) c.guarded.ensures
+    onward (took_counted (taken (c.after_sign.ensures _ c.next-token.ensures Fixed.opens refl) c.in_ok-opened.was) _ c.counting-2.ensures refl refl refl) c.guarded.ensures
 
 pub behind_branch-returns-in_err-second : goal.behind_branch-returns-in_err-second
 behind_branch-returns-in_err-second t c =

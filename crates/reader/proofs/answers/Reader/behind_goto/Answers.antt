@@ -12,14 +12,14 @@ returns-in_err-inside c a = rw (exit _ c.from_residual.ensures.1) (stop _ (exact
 
 pub returns-in_err-mark : goal.returns-in_err-mark
 returns-in_err-mark c a =
-    let none = neither_taken (c.word.ensures _ Fixed.lend refl refl) (c.word-2.ensures _ Fixed.rend refl refl) c.or.ensures c.in_err-mark.was in
+    let none = neither_taken (c.after_word-lend.ensures _ c.next-token.ensures _ Fixed.lend refl refl) (c.after_word.ensures _ c.next-token.ensures _ Fixed.rend refl refl) c.or.ensures c.in_err-mark.was in
     rw
     (exit _ c.from_residual-in_err-mark.ensures.1)
     (then _ (exactly (c.sign.ensures Fixed.opens refl)) c.in_ok-inside.was (refuses_both none.1 none.0 (λ p k l r. (l, (r, tt)))))
 
 pub returns : goal.returns
 returns c a =
-    let one = either_taken (c.word.ensures _ Fixed.lend refl refl) (c.word-2.ensures _ Fixed.rend refl refl) c.or.ensures c.in_ok-mark.was in
+    let one = either_taken (c.after_word-lend.ensures _ c.next-token.ensures _ Fixed.lend refl refl) (c.after_word.ensures _ c.next-token.ensures _ Fixed.rend refl refl) c.or.ensures c.in_ok-mark.was in
     then
     _
     (exactly (c.sign.ensures Fixed.opens refl))

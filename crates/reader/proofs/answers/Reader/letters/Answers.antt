@@ -20,7 +20,7 @@ returns-in_err-behind c =
 pub returns-in-Ok : goal.returns-in-Ok
 returns-in-Ok c =
     let listed = arrives_on c.loop-behind.invariant (with_went c.letter.ensures c.in_ok-behind.was) in
-    record { right = arrives_on listed (took_with (taken (c.sign.ensures Fixed.close_list refl) c.in-Ok.is) _ refl refl refl) }
+    record { right = arrives_on listed (took_with (taken (c.after_sign.ensures _ c.next-token.ensures Fixed.close_list refl) c.in-Ok.is) _ refl refl refl) }
 
 pub returns-in_err-reader : goal.returns-in_err-reader
 returns-in_err-reader c =
@@ -30,17 +30,17 @@ returns-in_err-reader c =
     (with_refused_on
     listed
     (refuses_both
-    (missed_one (c.sign-in-loop-behind.ensures Fixed.comma refl) c.in_err-reader.was)
-    (missed_one (c.sign.ensures Fixed.close_list refl) c.in_default.is).lacks
+    (missed_one (c.after_sign-in-loop-behind.ensures _ c.next-token.ensures Fixed.comma refl) c.in_err-reader.was)
+    (missed_one (c.after_sign.ensures _ c.next-token.ensures Fixed.close_list refl) c.in_default.is).lacks
     (λ p k l r. (l, (r, tt)))))
 
 pub loop-behind-smaller : goal.loop-behind-smaller
 loop-behind-smaller c =
     let listed = with_went c.letter.ensures c.in_ok-behind.was in
-    let comma = taken (c.sign-in-loop-behind.ensures Fixed.comma refl) c.in_ok-reader.was in
+    let comma = taken (c.after_sign-in-loop-behind.ensures _ c.next-token.ensures Fixed.comma refl) c.in_ok-reader.was in
     omega (arith, nearer comma, listed.comes.forth, ap (length {A = ℕ}) listed.same)
 
 pub loop-behind-preserved : goal.loop-behind-preserved
 loop-behind-preserved c =
     let listed = arrives_on c.loop-behind.invariant (with_went c.letter.ensures c.in_ok-behind.was) in
-    arrives_on listed (took_with (taken (c.sign-in-loop-behind.ensures Fixed.comma refl) c.in_ok-reader.was) _ refl refl refl)
+    arrives_on listed (took_with (taken (c.after_sign-in-loop-behind.ensures _ c.next-token.ensures Fixed.comma refl) c.in_ok-reader.was) _ refl refl refl)

@@ -12,14 +12,14 @@ returns-in_err-is c a = rw (exit _ c.from_residual.ensures.1) (stop _ (exactly (
 
 pub returns-in_err-said : goal.returns-in_err-said
 returns-in_err-said c a =
-    let none = neither_taken (c.word.ensures _ Fixed.is_true refl refl) (c.word-2.ensures _ Fixed.is_false refl refl) c.or.ensures c.in_err-said.was in
+    let none = neither_taken (c.after_word-yes.ensures _ c.next-token.ensures _ Fixed.is_true refl refl) (c.after_word.ensures _ c.next-token.ensures _ Fixed.is_false refl refl) c.or.ensures c.in_err-said.was in
     rw
     (exit _ c.from_residual-in_err-said.ensures.1)
     (then _ (exactly (c.sign.ensures Fixed.equals refl)) c.in_ok-is.was (refuses_both none.1 none.0 (λ p k l r. (l, (r, tt)))))
 
 pub returns : goal.returns
 returns c a =
-    let one = either_taken (c.word.ensures _ Fixed.is_true refl refl) (c.word-2.ensures _ Fixed.is_false refl refl) c.or.ensures c.in_ok-said.was in
+    let one = either_taken (c.after_word-yes.ensures _ c.next-token.ensures _ Fixed.is_true refl refl) (c.after_word.ensures _ c.next-token.ensures _ Fixed.is_false refl refl) c.or.ensures c.in_ok-said.was in
     then
     _
     (exactly (c.sign.ensures Fixed.equals refl))
