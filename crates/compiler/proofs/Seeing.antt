@@ -454,6 +454,17 @@ eats_from {r = r} {x = x} {found = found} same = subst (λ (k : Cursor). EatsSig
 pub skips_from : {k k' r : Cursor} {many : ℕ} → k' ≡ k → Skips k' r many → Skips k r many
 skips_from {r = r} {many = many} same = subst (λ (k : Cursor). Skips k r many) same
 
+-- the token that comes next still does where nothing was passed, so it can be asked again
+pub first_from : {k k' : Cursor} {t : Token} → k' ≡ k → FirstToken k.text.now k.at t → FirstToken k'.text.now k'.at t
+first_from {t = t} same = subst (λ (c : Cursor). FirstToken c.text.now c.at t) (sym same)
+
+module _ {k k' r : Cursor} {t : Token} (same : k' ≡ k) (first : FirstToken k.text.now k.at t) where
+  pub eats_again : {x : Sign} {found : Bool} → (FirstToken k'.text.now k'.at t → EatsSign k' r x found) → EatsSign k r x found
+  eats_again eats = eats_from same (eats (first_from same first))
+
+  pub skips_again : {many : ℕ} → (FirstToken k'.text.now k'.at t → Skips k' r many) → Skips k r many
+  skips_again skips = skips_from same (skips (first_from same first))
+
 -- past so many tokens and not past another that is not the one that is wanted
 pub missed_sign : {k k₁ k₂ : Cursor} {many : ℕ} {x : Sign} → Skips k k₁ many → NotSign k₁.text.now k₁.at x × (k₂ ≡ k₁) → Skips k k₂ many × NotSign k.text.now k₂.at x
 missed_sign {k} {many = many} {x = x} skips (none, same) = (

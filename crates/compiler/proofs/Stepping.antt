@@ -263,19 +263,21 @@ module _ {text : List ℕ} {start : ℕ} where
         let same : Word.Lend ≡ Word.Rend = word_first_is Word.Rend (lend.stands _ r.here) refl in
         absurd cc
 
-    goto_rend_lem : {ts us : Ts} {e : Plain}
+    goto_rend_lem : {ts us : Ts} {e : Plain} {end : ℕ}
         → Goto ts e us
         → Here text start ts
         → part ≡ step_part (move_code e) (change_code e) p next
         → NotWord text from Word.Lend
-        → Stepping text start from 3 us part p next to_right no_change
+        → GoesPast text from 1 end
+        → Stepping text start end 2 us part p next to_right no_change
     unfolding move_code change_code
-    goto_rend_lem to_lend here is other =
+    goto_rend_lem to_lend here is other on =
         let r = pass.behind _ here (omega arith) in
         absurd (other.other r.here refl)
-    goto_rend_lem to_rend here is other =
+    goto_rend_lem to_rend here is other on =
         let r = pass.behind _ here (omega arith) in
-        record { onward = omega (arith, r.onward); rest = _; here = r.here; enough = omega arith; ends = refl; is = is }
+        let b = on.behind _ r.here (omega arith) in
+        record { onward = omega (arith, r.onward, b.onward); rest = _; here = b.here; enough = omega arith; ends = refl; is = is }
 
 -- the calls of a move and of a goto
 module _ {text out : List ℕ} {place : Place} {from : ℕ} (pass : GoesPast text place.at 1 from)
@@ -297,8 +299,8 @@ module _ {text out : List ℕ} {place : Place} {from : ℕ} (pass : GoesPast tex
     pub lend_stepping : {end : ℕ} → SeesWord text from end Word.Lend → Stepping text place.at end 2 us part p next to_left no_change
     lend_stepping lend = goto_lend_lem pass goto_task.derived d.stands.here goto_task.is lend
 
-    pub rend_stepping : NotWord text from Word.Lend → Stepping text place.at from 3 us part p next to_right no_change
-    rend_stepping other = goto_rend_lem pass goto_task.derived d.stands.here goto_task.is other
+    pub rend_stepping : {end : ℕ} → NotWord text from Word.Lend → GoesPast text from 1 end → Stepping text place.at end 2 us part p next to_right no_change
+    rend_stepping other on = goto_rend_lem pass goto_task.derived d.stands.here goto_task.is other on
 
 -- a change of the counter, by the sign that is seen
 data ChangeSeen (text : List ℕ) (start end : ℕ) (us : Ts) (part : Part) (p next : ℕ) : Sign → Type 0 where

@@ -39,11 +39,12 @@ impl Emitter<'_, '_> {
         ensures { Emits (HeadedTask (w "move")) self.old self.new }
     {
         self.cursor.skip(1);
-        if self.cursor.eat_sign(Sign::Minus) {
+        let token = self.cursor.next();
+        if self.cursor.past_sign(token, Sign::Minus) {
             let n = self.cursor.number();
             self.step(form::NO_MOVE - n, form::NO_CHANGE, 2);
         } else {
-            let n = self.cursor.number();
+            let n = self.cursor.past_number(token);
             self.step(form::NO_MOVE + n, form::NO_CHANGE, 2);
         }
     }
@@ -54,10 +55,12 @@ impl Emitter<'_, '_> {
         ensures { Emits (HeadedTask (w "goto")) self.old self.new }
     {
         self.cursor.skip(1);
-        if self.cursor.eat_word(Word::Lend) {
+        let token = self.cursor.next();
+        if self.cursor.past_word(token, Word::Lend) {
             self.step(form::TO_LEFT, form::NO_CHANGE, 2);
         } else {
-            self.step(form::TO_RIGHT, form::NO_CHANGE, 3);
+            self.cursor.past(token);
+            self.step(form::TO_RIGHT, form::NO_CHANGE, 2);
         }
     }
 
@@ -66,15 +69,16 @@ impl Emitter<'_, '_> {
         requires { Ready (HeadedTask (w "c")) self.old }
         ensures { Emits (HeadedTask (w "c")) self.old self.new }
     {
-        if self.cursor.eat_sign(Sign::Increment) {
+        let token = self.cursor.next();
+        if self.cursor.past_sign(token, Sign::Increment) {
             self.step(form::NO_MOVE, UP, 1);
-        } else if self.cursor.eat_sign(Sign::Decrement) {
+        } else if self.cursor.past_sign(token, Sign::Decrement) {
             self.step(form::NO_MOVE, DOWN, 1);
-        } else if self.cursor.eat_sign(Sign::Add) {
+        } else if self.cursor.past_sign(token, Sign::Add) {
             let n = self.cursor.number();
             self.step(form::NO_MOVE, form::NO_CHANGE + n, 1);
         } else {
-            self.cursor.skip(1);
+            self.cursor.past(token);
             let n = self.cursor.number();
             self.step(form::NO_MOVE, form::NO_CHANGE - n, 1);
         }

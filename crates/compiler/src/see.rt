@@ -1,5 +1,6 @@
 // The tokens of a text that is known to be a program, one behind the other.
 ghost use Rattle.std.specs.Prelude.{◌≡◌};
+ghost use Rattle.text.specs.First.{FirstToken};
 ghost use Rattle.rule.specs.Limits.{value_from};
 ghost use Rattle.compiler.specs.Inside.Seeing.{end_of, Skips, EatsWord, EatsSign, AtWord, ReadsWord, AtNumber, ReadsNumber, AtLetter, ReadsLetter, Digits};
 
@@ -48,12 +49,27 @@ impl Cursor<'_> {
         }
     }
 
-    // Past this word, if it comes next; whether it does. Beside it stands the same of a sign: each takes its own sort of token
-    // apart, and one over both would need a trait that says no more.
-    pub fn eat_word(&mut self, wanted: Word) -> bool
-        ensures { EatsWord self.old self.new wanted result }
+    // What comes next. Where that is asked for one thing after the other, it is read once, and `past` and those like it are told of it: each
+    // reading goes over all that stands before a token.
+    pub fn next(self) -> Token
+        ensures { FirstToken self.entry.text.now self.entry.at result }
     {
-        let Token::Word { word, end, .. } = token_at(self.text, self.at) else {
+        token_at(self.text, self.at)
+    }
+
+    // Past this token, which comes next.
+    pub fn past(&mut self, token: Token)
+        ensures { FirstToken self.old.text.now self.old.at token → Skips self.old self.new 1 }
+    {
+        self.at = end_of(token).unwrap_or(self.at);
+    }
+
+    // Past this token, which comes next, if it is this word; whether it is. Beside it stands the same of a sign: each takes its own sort of
+    // token apart, and one over both would need a trait that says no more.
+    pub fn past_word(&mut self, token: Token, wanted: Word) -> bool
+        ensures { FirstToken self.old.text.now self.old.at token → EatsWord self.old self.new wanted result }
+    {
+        let Token::Word { word, end, .. } = token else {
             return false;
         };
         if word != wanted {
@@ -63,11 +79,11 @@ impl Cursor<'_> {
         true
     }
 
-    // Past this sign, if it comes next; whether it does.
-    pub fn eat_sign(&mut self, wanted: Sign) -> bool
-        ensures { EatsSign self.old self.new wanted result }
+    // Past this token, which comes next, if it is this sign; whether it is.
+    pub fn past_sign(&mut self, token: Token, wanted: Sign) -> bool
+        ensures { FirstToken self.old.text.now self.old.at token → EatsSign self.old self.new wanted result }
     {
-        let Token::Sign { sign, end, .. } = token_at(self.text, self.at) else {
+        let Token::Sign { sign, end, .. } = token else {
             return false;
         };
         if sign != wanted {
@@ -75,6 +91,22 @@ impl Cursor<'_> {
         }
         self.at = end;
         true
+    }
+
+    // Past this word, if it comes next; whether it does.
+    pub fn eat_word(&mut self, wanted: Word) -> bool
+        ensures { EatsWord self.old self.new wanted result }
+    {
+        let token = self.next();
+        self.past_word(token, wanted)
+    }
+
+    // Past this sign, if it comes next; whether it does.
+    pub fn eat_sign(&mut self, wanted: Sign) -> bool
+        ensures { EatsSign self.old self.new wanted result }
+    {
+        let token = self.next();
+        self.past_sign(token, wanted)
     }
 
     // Past a word; which it is. (This, `letter` and `number` each take their own sort of token apart, as the readers do.)
@@ -106,7 +138,16 @@ impl Cursor<'_> {
         requires { AtNumber self.old }
         ensures { ReadsNumber self.old self.new result }
     {
-        let Token::Number { at, end } = token_at(self.text, self.at) else {
+        let token = self.next();
+        self.past_number(token)
+    }
+
+    // Past this token, which comes next and is a number; its value.
+    pub fn past_number(&mut self, token: Token) -> u8
+        requires { AtNumber self.old × FirstToken self.old.text.now self.old.at token }
+        ensures { ReadsNumber self.old self.new result }
+    {
+        let Token::Number { at, end } = token else {
             unreachable!()
         };
         self.at = end;

@@ -18,8 +18,9 @@ fn letters(cursor: &mut Cursor<'_>, out: &mut [u8]) -> usize
     loop {
         out[count + form::LETTERS_PLACE] = cursor.letter();
         count += 1;
-        if !cursor.eat_sign(Sign::Comma) {
-            cursor.skip(1);
+        let token = cursor.next();
+        if !cursor.past_sign(token, Sign::Comma) {
+            cursor.past(token);
             return count;
         }
     }

@@ -166,9 +166,10 @@ impl Emitter<'_, '_> {
         requires { Ready (WalkTask tightest to sign) self.old }
         ensures { Emits (WalkTask tightest to sign) self.old self.new }
     {
-        if self.cursor.eat_sign(Sign::Not) {
+        let token = self.cursor.next();
+        if self.cursor.past_sign(token, Sign::Not) {
             self.emit_operand(to, !sign);
-        } else if self.cursor.eat_sign(Sign::OpenParen) {
+        } else if self.cursor.past_sign(token, Sign::OpenParen) {
             self.emit_chain(to, sign, Operator::Or);
             self.cursor.skip(1);
         } else {

@@ -6,7 +6,7 @@ use mathlib.Core.Bool.{Bool}
 use lib.ListN.{length}
 use Rattle.compiler.specs.Inside.Operators.{is_or, Ahead}
 use Rattle.compiler.specs.Inside.Emission.{Leads}
-use Rattle.compiler.proofs.Seeing.{passes_in, eats_from}
+use Rattle.compiler.proofs.Seeing.{passes_in, eats_again}
 use Rattle.compiler.proofs.Emission.{ready, ready_in, ready_at, emits_in, emits_at, emitted_past, past_onward, same_then}
 use Rattle.compiler.proofs.Walking.{rank_falls, walk_few, walk_some, sides_here, before_operator, behind_operator, operator_onward, both_sides, side_doing, sign_onward, negation_doing, parens_doing, atom_doing}
 use Rattle.compiler.proofs.Emitter.+walk.Goals as goal
@@ -66,8 +66,8 @@ emit_chain-returns-else-operator_ahead t c =
 
 pub emit_operand-emit_operand-requires : goal.emit_operand-emit_operand-requires
 emit_operand-emit_operand-requires t c =
-    let eats = c.eat_sign.ensures in
-    let hit = eats.hit c.if-eat_sign.true in
+    let eats = c.past_sign.ensures c.next-token.ensures in
+    let hit = eats.hit c.if-past_sign.true in
     let d = c.requires.doing in (
       omega (arith, c.decreases, sign_onward d hit, walk_some d, ap length eats.text),
       ready_in eats.text (negation_doing d hit),
@@ -75,8 +75,8 @@ emit_operand-emit_operand-requires t c =
 
 pub emit_operand-emit_chain-requires : goal.emit_operand-emit_chain-requires
 emit_operand-emit_chain-requires t c =
-    let eats = eats_from (c.eat_sign.ensures.miss c.if-eat_sign.false).1 c.eat_sign-else-eat_sign.ensures in
-    let hit = eats.hit c.if-eat_sign-2.true in
+    let eats = eats_again ((c.past_sign.ensures c.next-token.ensures).miss c.if-past_sign.false).1 c.next-token.ensures c.past_sign-else-past_sign.ensures in
+    let hit = eats.hit c.if-past_sign-2.true in
     let d = c.requires.doing in (
       omega (arith, c.decreases, sign_onward d hit, walk_some d, ap length eats.text),
       ready_in eats.text (parens_doing d hit),
@@ -84,14 +84,14 @@ emit_operand-emit_chain-requires t c =
 
 pub emit_operand-emit_atom-requires : goal.emit_operand-emit_atom-requires
 emit_operand-emit_atom-requires t c =
-    let none = c.eat_sign.ensures.miss c.if-eat_sign.false in
-    let closed = (eats_from none.1 c.eat_sign-else-eat_sign.ensures).miss c.if-eat_sign-2.false in
+    let none = (c.past_sign.ensures c.next-token.ensures).miss c.if-past_sign.false in
+    let closed = (eats_again none.1 c.next-token.ensures c.past_sign-else-past_sign.ensures).miss c.if-past_sign-2.false in
     ready_at closed.1 (ready (atom_doing none.0 closed.0 c.requires.doing))
 
-pub emit_operand-returns-then-eat_sign : goal.emit_operand-returns-then-eat_sign
-emit_operand-returns-then-eat_sign t c =
-    let eats = c.eat_sign.ensures in
-    let hit = eats.hit c.if-eat_sign.true in
+pub emit_operand-returns-then-past_sign : goal.emit_operand-returns-then-past_sign
+emit_operand-returns-then-past_sign t c =
+    let eats = c.past_sign.ensures c.next-token.ensures in
+    let hit = eats.hit c.if-past_sign.true in
     let inner = c.emit_operand.ensures in
     record {
       emits = λ d. emits_in inner eats.text (negation_doing d hit);
@@ -100,10 +100,10 @@ emit_operand-returns-then-eat_sign t c =
       same = inner.same;
     }
 
-pub emit_operand-returns-then-eat_sign-2 : goal.emit_operand-returns-then-eat_sign-2
-emit_operand-returns-then-eat_sign-2 t c =
-    let eats = eats_from (c.eat_sign.ensures.miss c.if-eat_sign.false).1 c.eat_sign-else-eat_sign.ensures in
-    let hit = eats.hit c.if-eat_sign-2.true in
+pub emit_operand-returns-then-past_sign-2 : goal.emit_operand-returns-then-past_sign-2
+emit_operand-returns-then-past_sign-2 t c =
+    let eats = eats_again ((c.past_sign.ensures c.next-token.ensures).miss c.if-past_sign.false).1 c.next-token.ensures c.past_sign-else-past_sign.ensures in
+    let hit = eats.hit c.if-past_sign-2.true in
     let inner = c.emit_chain.ensures in
     let text = inner.text ∙ eats.text in
     let pass = passes_in text c.skip.ensures in
@@ -121,10 +121,10 @@ emit_operand-returns-then-eat_sign-2 t c =
       same = inner.same;
     }
 
-pub emit_operand-returns-else-eat_sign-2 : goal.emit_operand-returns-else-eat_sign-2
-emit_operand-returns-else-eat_sign-2 t c =
-    let none = c.eat_sign.ensures.miss c.if-eat_sign.false in
-    let closed = (eats_from none.1 c.eat_sign-else-eat_sign.ensures).miss c.if-eat_sign-2.false in
+pub emit_operand-returns-else-past_sign-2 : goal.emit_operand-returns-else-past_sign-2
+emit_operand-returns-else-past_sign-2 t c =
+    let none = (c.past_sign.ensures c.next-token.ensures).miss c.if-past_sign.false in
+    let closed = (eats_again none.1 c.next-token.ensures c.past_sign-else-past_sign.ensures).miss c.if-past_sign-2.false in
     let atom = emits_at closed.1 c.emit_atom.ensures in
     record {
       emits = λ d. atom.emits (atom_doing none.0 closed.0 d);

@@ -2,7 +2,7 @@
 use native.Mathlib.Omega.{arith}
 use mathlib.Core.Path.{refl, ◌∙◌}
 use lib.ListN.{length-set}
-use Rattle.compiler.proofs.Seeing.{sign_in_text, no_sign_in_text, skips_from, passes_in}
+use Rattle.compiler.proofs.Seeing.{sign_in_text, no_sign_in_text, skips_again, passes_in}
 use Rattle.compiler.proofs.Setting.{so_far_none, so_far_letter, so_far_room, letter_read_in, so_far_more, so_far_all}
 use Rattle.compiler.proofs.settings.letters.Goals as goal
 
@@ -23,13 +23,13 @@ bounds-out-count c = (so_far_room c.requires.stand (c.loop-cursor.invariant.2.li
 pub overflow_add-count : goal.overflow_add-count
 overflow_add-count c = omega (arith, so_far_room c.requires.stand (c.loop-cursor.invariant.2.lists c.requires.stand))
 
-pub returns-then-not-eat_sign : goal.returns-then-not-eat_sign
-returns-then-not-eat_sign c =
+pub returns-then-not-past_sign : goal.returns-then-not-past_sign
+returns-then-not-past_sign c =
     let i = c.loop-cursor.invariant in
     let reads = letter_read_in i.1 c.letter.ensures in
     let text = c.letter.ensures.text ∙ i.1 in
-    let miss = c.eat_sign.ensures.miss c.if-not-eat_sign.true in
-    let skips = skips_from miss.1 c.skip.ensures in
+    let miss = (c.past_sign.ensures c.next-token.ensures).miss c.if-not-past_sign.true in
+    let skips = skips_again miss.1 c.next-token.ensures c.past.ensures in
     record {
       lists = λ a. so_far_all reads a (i.2.lists a) (no_sign_in_text text miss.0) (passes_in text skips);
       text = skips.text ∙ text;
@@ -43,8 +43,8 @@ loop-cursor-preserved c =
     let i = c.loop-cursor.invariant in
     let reads = letter_read_in i.1 c.letter.ensures in
     let text = c.letter.ensures.text ∙ i.1 in
-    let hit = sign_in_text text (c.eat_sign.ensures.hit c.if-not-eat_sign.false) in (
+    let hit = sign_in_text text ((c.past_sign.ensures c.next-token.ensures).hit c.if-not-past_sign.false) in (
       simp length-set i.0,
-      c.eat_sign.ensures.text ∙ text,
+      (c.past_sign.ensures c.next-token.ensures).text ∙ text,
       record { lists = λ a. so_far_more reads a (i.2.lists a) hit },
     )
