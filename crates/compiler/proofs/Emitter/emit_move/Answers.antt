@@ -30,8 +30,7 @@ returns-then-past_sign c =
 
 pub past_number-n-requires : goal.past_number-n-requires
 past_number-n-requires c =
-    let missed = missed_sign c.skip.ensures ((c.past_sign.ensures c.next-token.ensures).miss c.if-past_sign.false) in
-    (
+    let missed = missed_sign c.skip.ensures ((c.past_sign.ensures c.next-token.ensures).miss c.if-past_sign.false) in (
       at_number _ missed.0.text (forward_counted missed.0.passes c.requires.doing missed.1),
       first_from ((c.past_sign.ensures c.next-token.ensures).miss c.if-past_sign.false).1 c.next-token.ensures,
     )
