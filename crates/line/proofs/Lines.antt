@@ -15,7 +15,7 @@ use Rattle.std.specs.Prelude.{Ok}
 use Rattle.construction.specs.declared.Sizes.{Sizes}
 use Rattle.line.specs.Inside.Adding.{Adds}
 use Rattle.line.specs.Decimal.{decimal}
-use Rattle.line.specs.CompileLine.{compile_line, refusal_line}
+use Rattle.line.specs.CompileLine.{compile_line, line_of, refusal_line}
 use Rattle.line.specs.VerdictLine.{meaning, verdict_word, verdict_line, answer_with}
 use Rattle.line.proofs.Decimal.{decimal_short}
 
@@ -27,7 +27,7 @@ number_short n behind a = omega (arith, a.ends, length-append (decimal n) (behin
 pub compiled_line : (s : Sizes)
     → spelling "ok " ++ ((decimal s.states ++ (32 ∷ [])) ++ ((decimal s.rows ++ (32 ∷ [])) ++ (decimal s.bytes ++ (10 ∷ []))))
     ≡ compile_line (Ok s)
-unfolding compile_line
+unfolding compile_line line_of
 compiled_line s = simp append_assoc
 
 pub compile_refused_line : (number place : ℕ)

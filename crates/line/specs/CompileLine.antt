@@ -10,8 +10,13 @@ use Rattle.line.specs.Decimal.{decimal}
 unfoldable pub refusal_line : ℕ → ℕ → List ℕ
 refusal_line number place = spelling "no " ++ (decimal number ++ (spelling " " ++ (decimal place ++ spelling "\n")))
 
-unfoldable pub compile_line : Result Sizes Refusal → List ℕ
-compile_line (Ok sizes) =
+-- the line of an answer, of whose refusal this is the number and this the place
+unfoldable pub line_of : {E : Type 0} → (E → ℕ) → (E → ℕ) → Result Sizes E → List ℕ
+line_of number place (Ok sizes) =
     spelling "ok "
     ++ (decimal sizes.states ++ (spelling " " ++ (decimal sizes.rows ++ (spelling " " ++ (decimal sizes.bytes ++ spelling "\n")))))
-compile_line (Err refusal) = refusal_line (number_of refusal.reason) refusal.place
+line_of number place (Err refusal) = refusal_line (number refusal) (place refusal)
+
+-- that of a reason's number
+unfoldable pub compile_line : Result Sizes Refusal → List ℕ
+compile_line = line_of (λ r. number_of r.reason) (λ r. r.place)

@@ -6,5 +6,5 @@ mod compile;
 mod parts;
 mod verdict;
 
-pub use compile::{compile_line, refusal_line};
+pub use compile::{Numbered, Refused, compile_line, refusal_line};
 pub use verdict::{answer_line, verdict_line};

@@ -47,11 +47,11 @@ use Rattle.construction.specs.Construction.{
   move_code,
 }
 use Rattle.line.specs.Decimal.{digits}
-use Rattle.line.specs.CompileLine.{compile_line, refusal_line}
+use Rattle.line.specs.CompileLine.{compile_line, line_of, refusal_line}
 use Rattle.samples.specs.Sample.{EachHolds, only_row}
 use Rattle.samples.specs.Starred.{starred}
 use Rattle.samples.proofs.Prove.{each}
 
 pub starred_hold : EachHolds starred
-unfolding outcome eat bit with_bit encode field two_bytes row_bytes rows_bytes flag symbol_on moved symbol_fits counter_fits changed row_fits scan letter_bytes faults fault_if letter_faults is_in value_from in_form number_faults symbol_name_faults atom_faults condition_faults plain_faults statements_faults truth_faults in_order settings_faults construct program_part statements_part with_bits and_then arm_part loop_part if_part test walk one_after_other one_or_other atom_rows symbol_rows without count_up symbol_code index_in change_code move_code compile_line refusal_line digits only_row
+unfolding outcome eat bit with_bit encode field two_bytes row_bytes rows_bytes flag symbol_on moved symbol_fits counter_fits changed row_fits scan letter_bytes faults fault_if letter_faults is_in value_from in_form number_faults symbol_name_faults atom_faults condition_faults plain_faults statements_faults truth_faults in_order settings_faults construct program_part statements_part with_bits and_then arm_part loop_part if_part test walk one_after_other one_or_other atom_rows symbol_rows without count_up symbol_code index_in change_code move_code compile_line line_of refusal_line digits only_row
 starred_hold = each starred tt
