@@ -465,6 +465,19 @@ module _ {k k' r : Cursor} {t : Token} (same : k' ≡ k) (first : FirstToken k.t
   pub skips_again : {many : ℕ} → (FirstToken k'.text.now k'.at t → Skips k' r many) → Skips k r many
   skips_again skips = skips_from same (skips (first_from same first))
 
+-- past some tokens, and past some more
+pub skips_on : {k r z : Cursor} {m n : ℕ} → Skips k r m → Skips r z n → Skips k z (m + n)
+skips_on {k} {r} {z} {m} {n} first second =
+    record {
+      text = second.text ∙ first.text;
+      passes = record {
+        behind = λ ts h fits.
+            let a = first.passes.behind ts h (omega (arith, fits)) in
+            let b = (passes_in first.text second).behind (drop m ts) a.here (omega (arith, fits, length-drop m ts)) in
+            record { onward = omega (arith, a.onward, b.onward); here = subst (Here k.text.now z.at) (drop-drop n m ts) b.here };
+      };
+    }
+
 -- past so many tokens and not past another that is not the one that is wanted
 pub missed_sign : {k k₁ k₂ : Cursor} {many : ℕ} {x : Sign} → Skips k k₁ many → NotSign k₁.text.now k₁.at x × (k₂ ≡ k₁) → Skips k k₂ many × NotSign k.text.now k₂.at x
 missed_sign {k} {many = many} {x = x} skips (none, same) = (

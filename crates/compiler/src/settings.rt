@@ -48,7 +48,8 @@ fn emit_settings(cursor: &mut Cursor<'_>, out: &mut [u8]) -> Settled
     requires { Settings cursor.old out.old }
     ensures { Settles cursor.old cursor.new out.old out.new result }
 {
-    if cursor.eat_word(Word::Alphabet) {
+    let token = cursor.next();
+    if cursor.past_word(token, Word::Alphabet) {
         cursor.skip(2);
         let count = letters(cursor, out);
         cursor.skip(3);
@@ -58,7 +59,8 @@ fn emit_settings(cursor: &mut Cursor<'_>, out: &mut [u8]) -> Settled
             decr_on_zero,
         }
     } else {
-        cursor.skip(2);
+        cursor.past(token);
+        cursor.skip(1);
         let decr_on_zero = truth(cursor);
         cursor.skip(3);
         let count = letters(cursor, out);

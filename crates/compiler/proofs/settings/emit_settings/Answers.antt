@@ -1,37 +1,37 @@
 -- Which word comes first says in which order the settings stand.
 use mathlib.Core.Path.{◌∙◌}
-use Rattle.compiler.proofs.Seeing.{passes_in, skips_from}
+use Rattle.compiler.proofs.Seeing.{passes_in, skips_again, skips_on}
 use Rattle.compiler.proofs.Setting.{letters_first, letters_last, letters_in, lists_in, truth_in, tells_in, truth_first, settled_first, letters_then, settled_last}
 use Rattle.compiler.proofs.settings.emit_settings.Goals as goal
 
 pub letters-count-requires : goal.letters-count-requires
 letters-count-requires c =
-    let eats = c.eat_word.ensures in
-    let hit = eats.hit c.if-eat_word.true in
+    let eats = c.past_word.ensures c.next-token.ensures in
+    let hit = eats.hit c.if-past_word.true in
     let skips = c.skip.ensures in
     let text = skips.text ∙ eats.text in
     letters_in text (letters_first hit (passes_in eats.text skips) c.requires.stand).stand
 
 pub truth-decr_on_zero-requires : goal.truth-decr_on_zero-requires
 truth-decr_on_zero-requires c =
-    let eats = c.eat_word.ensures in
-    let hit = eats.hit c.if-eat_word.true in
+    let eats = c.past_word.ensures c.next-token.ensures in
+    let hit = eats.hit c.if-past_word.true in
     let skips = c.skip.ensures in
     let text = skips.text ∙ eats.text in
     let f = letters_first hit (passes_in eats.text skips) c.requires.stand in
     let lists = c.letters-count.ensures in
-    let pass = passes_in (lists.text ∙ text) c.skip-then-eat_word.ensures in
-    truth_in (c.skip-then-eat_word.ensures.text ∙ lists.text ∙ text) (truth_first f (lists_in text lists f.stand) pass) f.truth
+    let pass = passes_in (lists.text ∙ text) c.skip-then-past_word.ensures in
+    truth_in (c.skip-then-past_word.ensures.text ∙ lists.text ∙ text) (truth_first f (lists_in text lists f.stand) pass) f.truth
 
-pub returns-then-eat_word : goal.returns-then-eat_word
-returns-then-eat_word c =
-    let eats = c.eat_word.ensures in
-    let hit = eats.hit c.if-eat_word.true in
+pub returns-then-past_word : goal.returns-then-past_word
+returns-then-past_word c =
+    let eats = c.past_word.ensures c.next-token.ensures in
+    let hit = eats.hit c.if-past_word.true in
     let skips = c.skip.ensures in
     let text = skips.text ∙ eats.text in
     let lists = c.letters-count.ensures in
-    let pass = passes_in (lists.text ∙ text) c.skip-then-eat_word.ensures in
-    let behind = c.skip-then-eat_word.ensures.text ∙ lists.text ∙ text in
+    let pass = passes_in (lists.text ∙ text) c.skip-then-past_word.ensures in
+    let behind = c.skip-then-past_word.ensures.text ∙ lists.text ∙ text in
     let tells = c.truth-decr_on_zero.ensures in
     record {
       settles = λ a.
@@ -41,37 +41,37 @@ returns-then-eat_word c =
       text = tells.text ∙ behind;
     }
 
-pub truth-decr_on_zero-requires-else-eat_word : goal.truth-decr_on_zero-requires-else-eat_word
-truth-decr_on_zero-requires-else-eat_word c =
-    let miss = c.eat_word.ensures.miss c.if-eat_word.false in
-    let skips = skips_from miss.1 c.skip-else-eat_word.ensures in
+pub truth-decr_on_zero-requires-else-past_word : goal.truth-decr_on_zero-requires-else-past_word
+truth-decr_on_zero-requires-else-past_word c =
+    let miss = (c.past_word.ensures c.next-token.ensures).miss c.if-past_word.false in
+    let skips = skips_on (skips_again miss.1 c.next-token.ensures c.past.ensures) c.skip-else-past_word.ensures in
     let f = letters_last miss.0 skips.passes c.requires.stand in
     truth_in skips.text f.here f.truth
 
-pub letters-count-requires-else-eat_word : goal.letters-count-requires-else-eat_word
-letters-count-requires-else-eat_word c =
-    let miss = c.eat_word.ensures.miss c.if-eat_word.false in
-    let skips = skips_from miss.1 c.skip-else-eat_word.ensures in
+pub letters-count-requires-else-past_word : goal.letters-count-requires-else-past_word
+letters-count-requires-else-past_word c =
+    let miss = (c.past_word.ensures c.next-token.ensures).miss c.if-past_word.false in
+    let skips = skips_on (skips_again miss.1 c.next-token.ensures c.past.ensures) c.skip-else-past_word.ensures in
     let f = letters_last miss.0 skips.passes c.requires.stand in
-    let tells = c.truth-decr_on_zero-else-eat_word.ensures in
+    let tells = c.truth-decr_on_zero-else-past_word.ensures in
     let text = tells.text ∙ skips.text in
-    letters_in (c.skip-else-eat_word-2.ensures.text ∙ text)
-    (letters_then f (tells_in skips.text tells f.here f.truth).1 (passes_in text c.skip-else-eat_word-2.ensures))
+    letters_in (c.skip-else-past_word-2.ensures.text ∙ text)
+    (letters_then f (tells_in skips.text tells f.here f.truth).1 (passes_in text c.skip-else-past_word-2.ensures))
 
-pub returns-else-eat_word : goal.returns-else-eat_word
-returns-else-eat_word c =
-    let miss = c.eat_word.ensures.miss c.if-eat_word.false in
-    let skips = skips_from miss.1 c.skip-else-eat_word.ensures in
-    let tells = c.truth-decr_on_zero-else-eat_word.ensures in
+pub returns-else-past_word : goal.returns-else-past_word
+returns-else-past_word c =
+    let miss = (c.past_word.ensures c.next-token.ensures).miss c.if-past_word.false in
+    let skips = skips_on (skips_again miss.1 c.next-token.ensures c.past.ensures) c.skip-else-past_word.ensures in
+    let tells = c.truth-decr_on_zero-else-past_word.ensures in
     let text = tells.text ∙ skips.text in
-    let opens = passes_in text c.skip-else-eat_word-2.ensures in
-    let inner = c.skip-else-eat_word-2.ensures.text ∙ text in
-    let lists = c.letters-count-else-eat_word.ensures in
+    let opens = passes_in text c.skip-else-past_word-2.ensures in
+    let inner = c.skip-else-past_word-2.ensures.text ∙ text in
+    let lists = c.letters-count-else-past_word.ensures in
     let behind = lists.text ∙ inner in
     record {
       settles = λ a.
           let f = letters_last miss.0 skips.passes a in
           let told = tells_in skips.text tells f.here f.truth in
-          settled_last f told.0 (lists_in inner lists (letters_then f told.1 opens)) (passes_in behind c.skip-else-eat_word-3.ensures);
-      text = c.skip-else-eat_word-3.ensures.text ∙ behind;
+          settled_last f told.0 (lists_in inner lists (letters_then f told.1 opens)) (passes_in behind c.skip-else-past_word-3.ensures);
+      text = c.skip-else-past_word-3.ensures.text ∙ behind;
     }
