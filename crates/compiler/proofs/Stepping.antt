@@ -3,7 +3,8 @@ use Prim.Native.Nat.{ℕ, ◌+◌, ◌-◌, ◌≤◌, ◌<◌}
 use native.Mathlib.Omega.{arith}
 use mathlib.Core.Path.{◌≡◌, refl, sym, ◌∙◌, ap, subst}
 use mathlib.Core.List.{List, [], ◌∷◌, ◌++◌, append-nil}
-use lib.ListN.{length, drop}
+use lib.ListN.{length, drop, length-drop}
+use lib.Seq.{drop-drop}
 use Rattle.text.specs.Token.{Token, number, w}
 use Rattle.text.specs.Tokens.{Placed, ◌at◌}
 use Rattle.text.specs.declared.Word.{Word}
@@ -39,6 +40,22 @@ pub record Stepping (text : List ℕ) (start from many : ℕ) (us : Ts) (part : 
   pub enough : many ≤ length rest
   pub ends : drop many rest ≡ us
   pub is : part ≡ step_part motion change p next
+
+-- behind the first of them, one less
+stepping_past : {text : List ℕ} {start from end many : ℕ} {us : Ts} {part : Part} {p next motion change : ℕ}
+    → Stepping text start from (1 + many) us part p next motion change
+    → GoesPast text from 1 end
+    → Stepping text start end many us part p next motion change
+stepping_past {many = many} st past =
+    let b = past.behind st.rest st.here (omega (arith, st.enough)) in
+    record {
+      onward = omega (arith, st.onward, b.onward);
+      rest = drop 1 st.rest;
+      here = b.here;
+      enough = omega (arith, st.enough, length-drop 1 st.rest);
+      ends = drop-drop many 1 st.rest ∙ st.ends;
+      is = st.is;
+    }
 
 module _ {task : Task} {text out : List ℕ} {place : Place} {h : Sheet} {accepting : List ℕ} {rows : List Row} {p next : ℕ} {ts us : Ts} {part : Part}
     (d : Doing task text out place h accepting rows p next ts us part)
@@ -263,21 +280,29 @@ module _ {text : List ℕ} {start : ℕ} where
         let same : Word.Lend ≡ Word.Rend = word_first_is Word.Rend (lend.stands _ r.here) refl in
         absurd cc
 
-    goto_rend_lem : {ts us : Ts} {e : Plain} {end : ℕ}
+    goto_rend_lem : {ts us : Ts} {e : Plain}
+        → Goto ts e us
+        → Here text start ts
+        → part ≡ step_part (move_code e) (change_code e) p next
+        → NotWord text from Word.Lend
+        → Stepping text start from 3 us part p next to_right no_change
+    unfolding move_code change_code
+    goto_rend_lem to_lend here is other =
+        let r = pass.behind _ here (omega arith) in
+        absurd (other.other r.here refl)
+    goto_rend_lem to_rend here is other =
+        let r = pass.behind _ here (omega arith) in
+        record { onward = omega (arith, r.onward); rest = _; here = r.here; enough = omega arith; ends = refl; is = is }
+
+    -- and from behind the mark
+    goto_rend_past_lem : {ts us : Ts} {e : Plain} {end : ℕ}
         → Goto ts e us
         → Here text start ts
         → part ≡ step_part (move_code e) (change_code e) p next
         → NotWord text from Word.Lend
         → GoesPast text from 1 end
         → Stepping text start end 2 us part p next to_right no_change
-    unfolding move_code change_code
-    goto_rend_lem to_lend here is other on =
-        let r = pass.behind _ here (omega arith) in
-        absurd (other.other r.here refl)
-    goto_rend_lem to_rend here is other on =
-        let r = pass.behind _ here (omega arith) in
-        let b = on.behind _ r.here (omega arith) in
-        record { onward = omega (arith, r.onward, b.onward); rest = _; here = b.here; enough = omega arith; ends = refl; is = is }
+    goto_rend_past_lem to here is other = stepping_past (goto_rend_lem to here is other)
 
 -- the calls of a move and of a goto
 module _ {text out : List ℕ} {place : Place} {from : ℕ} (pass : GoesPast text place.at 1 from)
@@ -299,8 +324,11 @@ module _ {text out : List ℕ} {place : Place} {from : ℕ} (pass : GoesPast tex
     pub lend_stepping : {end : ℕ} → SeesWord text from end Word.Lend → Stepping text place.at end 2 us part p next to_left no_change
     lend_stepping lend = goto_lend_lem pass goto_task.derived d.stands.here goto_task.is lend
 
-    pub rend_stepping : {end : ℕ} → NotWord text from Word.Lend → GoesPast text from 1 end → Stepping text place.at end 2 us part p next to_right no_change
-    rend_stepping other on = goto_rend_lem pass goto_task.derived d.stands.here goto_task.is other on
+    pub rend_stepping : NotWord text from Word.Lend → Stepping text place.at from 3 us part p next to_right no_change
+    rend_stepping other = goto_rend_lem pass goto_task.derived d.stands.here goto_task.is other
+
+    pub rend_stepping_past : {end : ℕ} → NotWord text from Word.Lend → GoesPast text from 1 end → Stepping text place.at end 2 us part p next to_right no_change
+    rend_stepping_past other = goto_rend_past_lem pass goto_task.derived d.stands.here goto_task.is other
 
 -- a change of the counter, by the sign that is seen
 data ChangeSeen (text : List ℕ) (start end : ℕ) (us : Ts) (part : Part) (p next : ℕ) : Sign → Type 0 where
